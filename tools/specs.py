@@ -17,6 +17,7 @@ INSIDE = re.compile(r"(?m)^ +(?:pub )?((?:[^\W\d]\w*'* )*◌?\w+◌? ):(?= |$)")
 PIECE = re.compile(r"(?m)^(?=(?:  (?:pub )?)?[^\W\d])")
 BOUND = re.compile(r"λ ([^.λ]+)\.|[({]([^(){}:]+) : |[{;]\s*([^\W\d]\w*'*) = |(?m:^ *[^\W\d]\w*'*( [^:=\n]*)? =(?: |$))")
 FIELDS = re.compile(r" +(?:pub )?((?:[^\W\d]\w*'* )+): ")
+OF_OWN = re.compile(r"(?m)^  (?:pub )?(?:outcome|describes|spared|lawful|shows|spares) [:=][^;]*?(?:;|(?=\n  pub |\Z))")
 LIBRARIES = [*crates.needed(["bpaf_program", "bpaf_batteries"])]
 
 
@@ -43,11 +44,17 @@ class Definition:
         self.heads = [it for indent in indents for it in re.findall(HEAD.format(indent), code)]
         inside = " ".join(INSIDE.findall(code)).replace("◌", "") if "data " in code else ""
         self.names = [*inside.split(), *self.heads]
-        self.code = INSIDE.sub(" :", code)
+        self.later = "\n".join(OF_OWN.findall(code)) if re.search(r"\bOwn\b", code) else ""
+        self.is_lemma = not re.search(r"(?m)^ *(?:pub )?(?:abbrev|unfoldable|data|record)\b(?! \{)", code)
+        self.code = INSIDE.sub(" :", OF_OWN.sub("", code) if self.later else code)
 
     def cited(self):
-        """The definitions and the types that it names."""
+        """The definitions and the types that it names; of a parser of one's own, but its tables, its looks and its laws."""
         return cited(self.code, self.file.uses, self.file.names)
+
+    def cited_later(self):
+        """What the tables, the looks and the laws of a parser of one's own name."""
+        return cited(self.later, self.file.uses, self.file.names)
 
 
 class File:
@@ -80,6 +87,8 @@ class RustType:
         """None: its specs are made of it."""
         return []
 
+    cited_later = cited
+
 
 @functools.cache
 def of_path(path):
@@ -99,11 +108,11 @@ def of_path(path):
 
 
 def meant(path, name):
-    """The definition or the type that a name is which stands at a path; none of std."""
+    """The definition or the type that a name is which stands at a path; none of std, and no lemma inside a module."""
     there = of_path(path)
     if not isinstance(there, File) or name is None:
         return there if isinstance(there, RustType) else None
-    return there.names[name] if name in there.names else meant(*there.uses[name])
+    return there.names[name] if name in there.names else meant(*there.uses[name]) if name in there.uses else None
 
 
 def words_of(code):
@@ -118,22 +127,22 @@ def words_of(code):
 
 
 def cited(code, uses, names=()):
-    """The definitions and the types that a piece of code names."""
+    """The definitions and the types that a piece of code names; no lemma."""
     words = words_of(code)
     found = [names[it] if it in names else meant(*uses[it]) for it in words if it in names or it in uses]
     for file, name in dict.fromkeys(BEHIND.findall(code)):
         there = of_path(uses[file][0]) if file in uses and uses[file][1] is None else None
         found.append(there.names.get(name) if isinstance(there, File) else None)
-    return [it for it in found if it]
+    return [it for it in found if it and not getattr(it, "is_lemma", False)]
 
 
-def all_cited(found, known):
+def all_cited(found, known, later=False):
     """What these rest on, and they themselves, in order, but for what is known; which is then known too."""
     todo, new = [*found], []
     while todo:
         it = todo.pop()
         if it not in known:
-            known.add(it)
+            known[it] = None
             new.append(it)
-            todo += it.cited()
+            todo += it.cited() + (it.cited_later() if later else [])
     return sorted(new, key=lambda it: it.place)

@@ -21,7 +21,7 @@ Names of the Prelude (as `List`, `map` and `Result`) aren't explained here. All 
 
 Read it from the top: each part has its clauses first, and below them each word that they use, before the words that it is made of. A type of
 Rust stands as it is declared, and its specs are made of that; one that has a model, as a `Doc` has the list of its pieces, is to all specs what its
-`view` gives. `x.now` is the value of `x` when a call is made, `x.entry` that of a parameter, and `P.reads` what the type `P` gives by its own impl.
+`view` gives. `x.now` is the value of `x` when a call is made, `x.entry` that of a parameter, and `P.grammar` what the type `P` gives by its own impl.
 [EXACTNESS](EXACTNESS.md) says the same in words, with lines worked through.
 
 """
@@ -34,19 +34,19 @@ stand there aren't repeated. The code is copied out of the crates by `tools/stat
 TABLE = """| Part | definitions | their lines of code | types of Rust | lines |
 |---|---|---|---|---|
 """
-KINDS_OF = ("Parser", "Fields", "ProgramField", "ProgramFields", "FromText", "FromList")
+KINDS_OF = ("Parser", "Fields", "FromText", "FromList")
 FIRST = """ParseFlag FromText ParseArgument ParsePositional ParseMap ParseWith ParseGuard ParseOptional ParseFallback
     ParseFallbackWith ParseMany ParseSome FromList ParseCollect ParseCount ParseLast ParseOrElse ParseChoice Last Both Four
     ParseCon ParseCommand""".split()
-MEANINGS = "can_eval shorts reads grammar agrees means fills"
-TABLES = "describes outcome fast_outcome"
+MEANINGS = "can_eval grammar means fills"
 DEALT = (
     "No word is ignored or used twice",
     """Where a run answers Ok(v), v is read off all places of the words' line but that of the first `--`, each used once (clause `dealt`). That
-holds of every parser; which values a kind reads off which places (`reads`) comes in the last two parts.""",
+holds of every parser. A parser is its grammar (`grammar`), which tells what it reads (`reads_of`); of what each kind is made comes in the last two
+parts.""",
     """bpaf_core/src/options/running.rt; impl<T: Drop, P: Parser<T>> OptionParser; run_inner dealt
     bpaf_core/src/options/running.rt; impl<T: Drop, P: Parser<T> + Drop> OptionParser; run_once dealt
-    bpaf_core/src/parser.rt; pub trait Parser; ; can_eval shorts reads
+    bpaf_core/src/parser.rt; pub trait Parser; ; can_eval grammar
     bpaf_keys/src/info.rt; impl Model for Info; ; Value view
     bpaf_text/src/named.rt; impl Model for NamedArg; ; Value view
     bpaf_doc/src/doc.rt; impl Model for Doc; ; Value view
@@ -72,17 +72,14 @@ is_whole can_run agrees answers tells answers_as_program
     bpaf_record/src/command_line.rt; impl<T: Drop, P: ProgramField<T>> CommandLine; ; \
 is_whole can_run agrees tells answers_as_program
     bpaf_record/src/record.rt; pub trait Record; run_record exact each_exact fields by_fields; is_flat answers_by_fields
-    bpaf_record/src/record.rt; impl<T: Drop, P: ProgramField<T> + FlatField<T>> Record; ; is_flat answers_by_fields
-    bpaf_record/src/field.rt; pub trait ProgramField; ; grammar agrees""",
+    bpaf_record/src/record.rt; impl<T: Drop, P: ProgramField<T> + FlatField<T>> Record; ; is_flat answers_by_fields""",
     "",
     "",
 )
 FLAT_KINDS = (
     "The kinds of parsers of a flat record",
-    """Of each kind that a flat record may have: which values it reads off which places (`reads`), of what it is made (`grammar`), and what its
-closures promise (`agrees`). The traits that they share come first.""",
+    """Of each kind that a flat record may have, of what it is made (`grammar`). The traits that they share come first.""",
     f"""bpaf/src/product.rt; pub trait Fields; ; {MEANINGS}
-    bpaf_record/src/field.rt; pub trait ProgramFields; ; {MEANINGS}
     bpaf_text/src/from_text.rt; pub trait FromText; ; {MEANINGS}
     bpaf_text/src/from_list.rt; pub trait FromList; ; {MEANINGS}
     bpaf_text/src/params.rt; impl<T> Model for ParseArgument; ; Value view""",
@@ -91,35 +88,37 @@ closures promise (`agrees`). The traits that they share come first.""",
 )
 OTHER_KINDS = (
     "The other kinds of parsers",
-    """The same of commands and of all others. A kind without `grammar` stands in no program; it has readings, as all kinds have, so the first
-part holds of it.""",
+    """The same of commands and of all others. One that is `own` stands in no program; it has readings, as all kinds have, so the first part holds
+of it.""",
     "bpaf_keys/src/names.rt; impl Model for CommandNames; ; Value view",
     MEANINGS,
     "other",
 )
 ANSWERS = (
     "What a run may answer",
-    """Every answer that a run may give, its pages and messages byte for byte (`answers`, of which `each_exact` speaks); and that each refusal has one
-of twelve names (clause `named`).""",
+    """Every answer that a run may give, its pages and messages byte for byte (`answers`, of which `each_exact` speaks); that each refusal has one of
+twelve names (clause `named`); and what one evaluation of a parser may answer and show, by its grammar. The law `lawful_of` ties the outcome to the
+readings: the newly taken places are a reading of the value.""",
     """bpaf_core/src/options/running.rt; impl<T: Drop, P: Parser<T>> OptionParser; run_inner named
     bpaf_record/src/command_line.rt; impl<T: Drop, P: ProgramField<T>> CommandLine; ; answers
-    bpaf_core/src/parser.rt; pub trait Parser; ; outcome lawful
+    bpaf_core/src/parser.rt; pub trait Parser; eval {
+    bpaf_core/src/parser.rt; pub trait Parser; meta {
+    bpaf/src/product.rt; pub trait Fields; eval_fail_fast {
     bpaf_line/src/state.rt; impl Model for State; ; Value view
     bpaf_line/src/missing.rt; impl Model for MissingItems; ; Value view""",
     "",
     "",
 )
-OUTCOMES = (
-    "What each kind of parser may answer",
-    """Of each kind what one evaluation may answer, and which situation it leaves (`outcome`); and which shapes it may show (`describes`). Its law
-(`lawful`) ties the outcome to the readings: the newly taken places are a reading of the value.""",
-    f"bpaf/src/product.rt; pub trait Fields; ; {TABLES}",
-    TABLES,
-    "all",
+PROMISES = (
+    "What else is so of an answer",
+    """Beside its outcome, of every parser: what is read and what is kept, that want of memory is never caught, and by its kind what else is so.""",
+    """bpaf/src/laws.rt; pub fn evaluate""",
+    "",
+    "",
 )
 PAGES = {
     "docs/STATEMENT.md": (THEOREM, (DEALT, EXACT, FLAT_KINDS, OTHER_KINDS)),
-    "docs/TABLES.md": (REST, (ANSWERS, OUTCOMES)),
+    "docs/TABLES.md": (REST, (ANSWERS, PROMISES)),
 }
 
 
@@ -138,6 +137,8 @@ class Quote:
             said = [it for it in said if it.split()[0] == "requires" or it.split()[1] in clauses]
             parts.append("\n".join([first, *said]))
         self.text = found.split("{\n")[0] + "{\n" + "\n\n".join(parts) + "\n}" if parts else ""
+        if header.startswith("pub fn"):
+            self.text = found.split("\n{\n")[0]
         self.uses = uses_of("\n".join(re.findall(r"(?m)^ghost use .*", text)) + "\n" + found)
 
     def cited(self):
@@ -183,12 +184,13 @@ def lines_of_code(definition):
     return 0 if isinstance(definition, RustType) else len(re.findall(r"(?m)^\s*(?!--)\S", definition.text))
 
 
-def part(quoted, members, which, known):
-    """The texts of a part and what it newly tells, by what is quoted."""
+def part(quoted, members, which, known, later):
+    """The texts of a part and what it newly tells, by what is quoted; `later` with what an earlier page leaves out of parsers of one's own."""
     own = [Quote(*line.strip().split("; ")) for line in quoted.split("\n")]
     texts, counted = [], []
     for kind, quotes in [("What the kinds share" if members else "", own), *(kinds(members, which) if members else ())]:
-        new = all_cited([it for quote in quotes for it in quote.cited()], known)
+        found = [it for quote in quotes for it in quote.cited()]
+        new = all_cited(found + [it for before in known if later for it in before.cited_later()], known, later)
         texts += [f"### {kind}\n"] if kind and (quotes or new) else []
         texts += [*shown(quotes), *shown(from_the_top(new))]
         counted += new
@@ -197,11 +199,11 @@ def part(quoted, members, which, known):
 
 def pages():
     """Each page, whose table counts what stands below it."""
-    known = set()
+    known = {}
     for path, (head, parts) in PAGES.items():
-        rows, below = [], []
+        rows, below, later = [], [], bool(known)
         for number, (title, said, quoted, members, which) in enumerate(parts, 1):
-            texts, counted = part(quoted, members, which, known)
+            texts, counted = part(quoted, members, which, known, later)
             lines = sum(it.count("\n") - 4 for it in texts if "```" in it)
             types = sum(isinstance(it, RustType) for it in counted)
             heads, code = sum(len(it.heads) for it in counted), sum(map(lines_of_code, counted))

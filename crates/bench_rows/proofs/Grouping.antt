@@ -2,19 +2,23 @@
 -- that accepts one text alone.
 use Rattle.std.proofs.Common.{◌≡◌, ℕ, Bool, List, Result, Ok, Err, Option, Some, None, sym, ⊎_elim}
 use Rattle.std.proofs.Common.{String, string_bytes, inl, inr, ◌<◌, ◌≤◌, [], ◌∷◌, length, get_or}
+use Rattle.std.proofs.Common.{◌≢◌, IfOk}
 use Rattle.std.proofs.{lemmas.List.Elements.All-weaker, Common.refl, Common.arith}
 use Rattle.std.specs.declared.alloc.Global.{Global}
-use Rattle.bpaf_doc.specs.{declared.doc.Piece.Piece, Shape.Part, Shape.Any}
+use Rattle.bpaf_doc.specs.{declared.doc.Piece.Piece, declared.meta.Meta.Meta, Shape.Any}
+use Rattle.bpaf_doc.specs.Shape.{Part, Skip, shape_of}
 use Rattle.bpaf_base.specs.{declared.arg.Arg.Arg, Items.item_text}
 use Rattle.bpaf_line.specs.declared.error.Message.{Message}
 use Rattle.bpaf_line.specs.declared.error.Message.TheVariants.{Memory, Missing}
 use Rattle.bpaf_line.specs.{declared.error.Error.Error, Situation.Situation}
 use Rattle.bpaf_laws.specs.Product.{ProductOutcome}
 use Rattle.bpaf_laws.specs.Leaves.{Looks, AnyOutcome, AnyFails, ArePassed, ChecksText}
-use Rattle.bpaf_laws.specs.{Adjacent.GroupOutcome, Reading.Outcome, Laws.Spares}
+use Rattle.bpaf_laws.specs.{Adjacent.GroupDescribes, Adjacent.GroupOutcome, Laws.Spares}
+use Rattle.bpaf_laws.specs.Reading.{Outcome}
 use Rattle.bpaf_laws.proofs.AdjacentLaws.{spared_group}
-use Rattle.bench_rows.specs.Levels.{AcceptsText, BegunOutcome, NestedOutcome}
-use Rattle.bench_values.specs.{declared.value.Value.Value, Modifiers.ToldOutcome}
+use Rattle.bench_rows.specs.Levels.{AcceptsText, together_grammar, tuple_grammar}
+use Rattle.bench_values.specs.{declared.value.Value.Value}
+use Rattle.bpaf_grammar.specs.{Grammar.Grammar, Grammar.describes_of, Own.MadeOutcome}
 
 module _ {T : Type 0} (looks more : Looks T)
     (allows : (text : List ℕ) (found : Option T) → looks text found → more text found)
@@ -89,7 +93,7 @@ same_product fields same s t (Err e) ran spared = ran
 -- what is told of the one answer is told of the other, where each is such a one
 told_as : {V : Type 0} (inner more : Outcome V) (told : V → Value → Type 0) (s t : Situation)
     → ((r : Result V Error) → inner s r t → more s r t) → (r : Result Value Error)
-    → ToldOutcome inner told s r t → ToldOutcome more told s r t
+    → MadeOutcome inner told s r t → MadeOutcome more told s r t
 told_as inner more told s t by (Ok v) ran = (ran.0, by (Ok ran.0) ran.1, ran.2)
 told_as inner more told s t by (Err e) ran = ⊎_elim (λ refusal. inl (by (Err e) refusal))
     (λ short. inr (short.0, by (Ok short.0) short.1, short.2)) ran
@@ -97,8 +101,8 @@ told_as inner more told s t by (Err e) ran = ⊎_elim (λ refusal. inl (by (Err 
 -- a product by such a constructor, told as one value
 pub nested_by : {V : Type 0} (fields : Outcome V) {makes : V → V → Type 0}
     (told : V → Value → Type 0) (s t : Situation) (r : Result Value Error)
-    → ToldOutcome (ProductOutcome fields makes) told s r t → IsSame makes
-    → NestedOutcome fields told s r t
+    → MadeOutcome (ProductOutcome fields makes) told s r t → IsSame makes
+    → MadeOutcome (ProductOutcome fields (λ x v. v ≡ x)) told s r t
 nested_by {V} fields {makes} told s t r ran same = told_as (ProductOutcome fields makes)
     (ProductOutcome fields (λ x v. v ≡ x)) told s t by_answer r ran
   where
@@ -110,8 +114,8 @@ nested_by {V} fields {makes} told s t r ran same = told_as (ProductOutcome field
 -- so is a group by it that begins with an item
 pub begun_by : {V : Type 0} (fast : Outcome V) {makes : V → V → Type 0}
     (told : V → Value → Type 0) (first : Part) (s t : Situation) (r : Result Value Error)
-    → ToldOutcome (GroupOutcome V (ProductOutcome fast makes) first) told s r t → IsSame makes
-    → BegunOutcome fast told first s r t
+    → MadeOutcome (GroupOutcome V (ProductOutcome fast makes) first) told s r t → IsSame makes
+    → MadeOutcome (GroupOutcome V (ProductOutcome fast (λ x v. v ≡ x)) first) told s r t
 begun_by {V} fast {makes} told first s t r ran same = told_as
     (GroupOutcome V (ProductOutcome fast makes) first)
     (GroupOutcome V (ProductOutcome fast (λ x v. v ≡ x)) first) told s t
@@ -145,3 +149,35 @@ four_members (p ∷ q ∷ r ∷ []) a b c d at_least below ea eb ec ed = absurd 
 four_members (p ∷ q ∷ r ∷ s ∷ []) a b c d at_least below ea eb ec ed = rw (ea, eb, ec, ed) refl
 four_members (p ∷ q ∷ r ∷ s ∷ t ∷ xs) a b c d at_least below ea eb ec ed =
     absurd (omega (arith, below))
+
+-- another number of parsers shows nothing
+pub others_show : {P E : Type 0} (of : P → Grammar Value) (ps : List P) → length ps ≢ 2
+    → length ps ≢ 3 → length ps ≢ 4 → (r : Result Meta E) → IfOk r (λ meta. shape_of meta ≡ Skip)
+    → IfOk r (λ meta. describes_of (tuple_grammar of ps) (shape_of meta))
+others_show of [] two three four r shown = shown
+others_show of (p ∷ []) two three four r shown = shown
+others_show of (p ∷ q ∷ []) two three four r shown = absurd (two refl)
+others_show of (p ∷ q ∷ r ∷ []) two three four answer shown = absurd (three refl)
+others_show of (p ∷ q ∷ r ∷ s ∷ []) two three four answer shown = absurd (four refl)
+others_show of (p ∷ q ∷ r ∷ s ∷ t ∷ ps) two three four answer shown = shown
+
+-- a group of two or three shows their product, as what stands together
+pub group_shows : {P E : Type 0} (of : P → Grammar Value) (ps : List P) → 2 ≤ length ps
+    → length ps < 4 → (r : Result Meta E)
+    → IfOk r (λ meta. GroupDescribes (describes_of (tuple_grammar of ps)) (shape_of meta))
+    → IfOk r (λ meta. describes_of (together_grammar of ps) (shape_of meta))
+group_shows of [] least below r shown = absurd (omega (arith, least))
+group_shows of (p ∷ []) least below r shown = absurd (omega (arith, least))
+group_shows of (p ∷ q ∷ []) least below r shown = shown
+group_shows of (p ∷ q ∷ r ∷ []) least below answer shown = shown
+group_shows of (p ∷ q ∷ r ∷ s ∷ ps) least below answer shown = absurd (omega (arith, below))
+
+-- another number of them shows nothing
+pub other_groups_show : {P E : Type 0} (of : P → Grammar Value) (ps : List P) → length ps ≢ 2
+    → length ps ≢ 3 → (r : Result Meta E) → IfOk r (λ meta. shape_of meta ≡ Skip)
+    → IfOk r (λ meta. describes_of (together_grammar of ps) (shape_of meta))
+other_groups_show of [] two three r shown = shown
+other_groups_show of (p ∷ []) two three r shown = shown
+other_groups_show of (p ∷ q ∷ []) two three r shown = absurd (two refl)
+other_groups_show of (p ∷ q ∷ r ∷ []) two three answer shown = absurd (three refl)
+other_groups_show of (p ∷ q ∷ r ∷ s ∷ ps) two three answer shown = shown

@@ -1,8 +1,9 @@
 //! Adjacent groups of described parsers.
 ghost use Rattle.std.specs.Prelude.{All, IfOk};
 ghost use Rattle.bpaf_doc.specs.Shape.{shape_of};
+ghost use Rattle.bpaf_grammar.specs.Grammar.{describes_of, outcome_of};
 ghost use Rattle.bpaf_laws.specs.Adjacent.{GroupDescribes};
-ghost use Rattle.bench_rows.specs.Levels.{GroupedOutcome, TogetherOutcome, TupleDescribes};
+ghost use Rattle.bench_rows.specs.Levels.{GroupedOutcome, together_grammar, tuple_grammar};
 
 use crate::several::{Three, ThreeFields, Two, TwoFields, product_meta, three_fields, two_fields};
 use bench_values::{Told, Value, tell};
@@ -17,8 +18,7 @@ where
     V: Told + Drop,
     F: Fields<V> + Drop,
     requires { F.can_eval fields }
-    ensures { GroupedOutcome (F.fast_outcome fields) (F.describes fields) V.told
-        state.old result state.new }
+    ensures { GroupedOutcome V.told (F.grammar fields) state.old result state.new }
 {
     let product = ParseCon {
         fields,
@@ -38,7 +38,7 @@ where
 /// no item first.
 pub fn group<P: Parser<Value>>(parsers: &[P], state: &mut State) -> Result<Value, Error>
     requires { All P.can_eval parsers.now }
-    ensures { TogetherOutcome P.outcome P.describes parsers.now state.old result state.new }
+    ensures { outcome_of (together_grammar P.grammar parsers.now) state.old result state.new }
 {
     match parsers {
         [a, b] => grouped::<Two, TwoFields<'_, P>>(two_fields(a, b), state),
@@ -48,11 +48,24 @@ pub fn group<P: Parser<Value>>(parsers: &[P], state: &mut State) -> Result<Value
 }
 
 /// What a group shows: its product, as what stands together.
-pub fn group_meta<P: Parser<Value>>(parsers: &[P], alloc: Global) -> Result<Meta, AllocError>
+fn joined_meta<P: Parser<Value>>(parsers: &[P], alloc: Global) -> Result<Meta, AllocError>
     requires { All P.can_eval parsers.now }
-    ensures { IfOk result (λ meta.
-        GroupDescribes (TupleDescribes P.describes parsers.now) (shape_of meta)) }
+    ensures { IfOk result (λ meta. GroupDescribes
+        (describes_of (tuple_grammar P.grammar parsers.now)) (shape_of meta)) }
 {
     let within = product_meta(parsers, alloc)?;
     Ok(Meta::Adjacent(Box::new(alloc, within)?))
+}
+
+/// What a group of two or three shows; another number shows nothing.
+pub fn group_meta<P: Parser<Value>>(parsers: &[P], alloc: Global) -> Result<Meta, AllocError>
+    requires { All P.can_eval parsers.now }
+    ensures { IfOk result (λ meta.
+        describes_of (together_grammar P.grammar parsers.now) (shape_of meta)) }
+{
+    match parsers {
+        [_, _] => joined_meta(parsers, alloc),
+        [_, _, _] => joined_meta(parsers, alloc),
+        _ => fail::<Value>("wrong number of parsers").meta(alloc),
+    }
 }

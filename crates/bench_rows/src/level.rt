@@ -1,7 +1,6 @@
 //! A described parser whose inner ones are of the level below.
 ghost use Rattle.std.specs.Prelude.{All};
-ghost use Rattle.bench_rows.specs.Levels.{LevelDescribes, LevelOutcome, LevelReads};
-ghost use Rattle.bench_rows.specs.Levels.{level_lawful, level_shorts, level_shows};
+ghost use Rattle.bench_rows.specs.Levels.{level_grammar};
 ghost use Rattle.bench_values.specs.Modifiers.{all_of};
 
 use crate::groups::{group, group_meta};
@@ -26,15 +25,7 @@ pub struct Level<P> {
 impl<P: Parser<Value> + Drop> Parser<Value> for Level<P> {
     ghost can_eval = { λ p. All P.can_eval p.inner.parsers.items };
 
-    ghost describes = { λ p. LevelDescribes P.describes p.kind p.inner.parsers.items };
-
-    ghost shorts = { λ p. level_shorts P.shorts p.kind p.inner.parsers.items };
-
-    ghost reads = { λ p.
-        LevelReads P.reads ⟦<Value as Clone>⟧.is_clone p.kind p.inner.parsers.items };
-
-    ghost outcome = { λ p.
-        LevelOutcome P.outcome P.describes ⟦<Value as Clone>⟧.is_clone p.kind
+    ghost grammar = { λ p. level_grammar P.grammar ⟦<Value as Clone>⟧.is_clone p.kind
         p.inner.parsers.items };
 
     fn eval(&self, state: &mut State) -> Result<Value, Error> {
@@ -56,11 +47,6 @@ impl<P: Parser<Value> + Drop> Parser<Value> for Level<P> {
             Kind::Command(names, _) => called_meta(names, &self.inner, alloc),
         }
     }
-
-    ghost lawful = { λ p. level_lawful P.outcome P.reads P.describes ⟦<Value as Clone>⟧.is_clone
-        p.kind p.inner.parsers.items P.lawful };
-
-    ghost shows = { λ p. level_shows P.describes P.shorts P.shows p.kind p.inner.parsers.items };
 }
 
 impl<P: Described> Described for Level<P> {

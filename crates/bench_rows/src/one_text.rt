@@ -70,24 +70,14 @@ impl OneText {
 }
 
 impl Parser<Value> for OneText {
-    ghost use Rattle.std.specs.Prelude.{◌≡◌, None, string_bytes, refl};
-    ghost use Rattle.bpaf_doc.specs.Shape.{Shown, Any};
-    ghost use Rattle.bpaf_laws.specs.{Leaves.AnyOutcome, Leaves.AnyReads, Laws.no_shorts};
-    ghost use Rattle.bpaf_laws.proofs.{LeafLaws.any_lawful, ShownNames.one_shape};
-    ghost use Rattle.bench_values.specs.declared.value.Value.{Value};
+    ghost use Rattle.std.specs.Prelude.{None, string_bytes};
+    ghost use Rattle.bpaf_grammar.specs.{Grammar.own, Leaves.any_item};
     ghost use Rattle.bench_rows.specs.Levels.{AcceptsText};
 
     ghost can_eval = { λ p. Unit {0} };
 
-    ghost describes = { λ p shape. shape ≡ Shown (Any p.metavar None p.anywhere) };
-
-    ghost shorts = { λ p. no_shorts };
-
-    ghost reads = { λ p. AnyReads Value (AcceptsText (string_bytes p.text)) };
-
-    ghost outcome = { λ p.
-        AnyOutcome (AcceptsText (string_bytes p.text)) (Any p.metavar None p.anywhere)
-        p.anywhere };
+    ghost grammar = { λ p.
+        own (any_item (AcceptsText (string_bytes p.text)) p.metavar None p.anywhere) };
 
     fn eval(&self, state: &mut State) -> Result<Value, Error> {
         let wanted = self.text.as_str();
@@ -101,10 +91,4 @@ impl Parser<Value> for OneText {
             anywhere: self.anywhere,
         }))
     }
-
-    ghost lawful = { λ p.
-        any_lawful Value (AcceptsText (string_bytes p.text)) (Any p.metavar None p.anywhere)
-        p.anywhere };
-
-    ghost shows = { λ p. one_shape refl };
 }

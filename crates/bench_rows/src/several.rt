@@ -1,9 +1,9 @@
 //! Products and choices of several described parsers.
 ghost use Rattle.std.specs.Prelude.{◌≡◌, All, IfOk};
 ghost use Rattle.bpaf_doc.specs.Shape.{shape_of};
-ghost use Rattle.bpaf_laws.specs.Choice.{ChoicesDescribes, ChoicesOutcome};
+ghost use Rattle.bpaf_grammar.specs.Grammar.{choices_of, describes_of, outcome_of};
 ghost use Rattle.bpaf_laws.specs.Product.{ProductDescribes};
-ghost use Rattle.bench_rows.specs.Levels.{NestedOutcome, TupleDescribes, TupleOutcome};
+ghost use Rattle.bench_rows.specs.Levels.{nested_grammar, tuple_grammar};
 
 use bench_values::{Lent, Told, Value, tell};
 use bpaf::parsers::{ParseChoice, ParseCon, ParseOrElse};
@@ -32,7 +32,7 @@ type FourFields<'p, P> = Both<Lent<'p, P>, ThreeFields<'p, P>>;
 /// The values of fields, as one.
 fn nested<V: Told + Drop, F: Fields<V> + Drop>(fields: F, state: &mut State) -> Result<Value, Error>
     requires { F.can_eval fields }
-    ensures { NestedOutcome (F.outcome fields) V.told state.old result state.new }
+    ensures { outcome_of (nested_grammar V.told (F.grammar fields)) state.old result state.new }
 {
     let product = ParseCon {
         fields,
@@ -47,7 +47,8 @@ fn nested<V: Told + Drop, F: Fields<V> + Drop>(fields: F, state: &mut State) -> 
 /// What fields show.
 fn nested_meta<V: Drop, F: Fields<V> + Drop>(fields: F, alloc: Global) -> Result<Meta, AllocError>
     requires { F.can_eval fields }
-    ensures { IfOk result (λ meta. ProductDescribes (F.describes fields) (shape_of meta)) }
+    ensures { IfOk result (λ meta.
+        ProductDescribes (describes_of (F.grammar fields)) (shape_of meta)) }
 {
     let product = ParseCon {
         fields,
@@ -96,7 +97,7 @@ fn four_fields<'p, P>(a: &'p P, b: &'p P, c: &'p P, d: &'p P) -> FourFields<'p, 
 /// The values of two, three or four parsers, the one after the other.
 pub fn product<P: Parser<Value>>(parsers: &[P], state: &mut State) -> Result<Value, Error>
     requires { All P.can_eval parsers.now }
-    ensures { TupleOutcome P.outcome parsers.now state.old result state.new }
+    ensures { outcome_of (tuple_grammar P.grammar parsers.now) state.old result state.new }
 {
     match parsers {
         [a, b] => nested::<Two, TwoFields<'_, P>>(two_fields(a, b), state),
@@ -109,7 +110,8 @@ pub fn product<P: Parser<Value>>(parsers: &[P], state: &mut State) -> Result<Val
 /// What a product shows.
 pub fn product_meta<P: Parser<Value>>(parsers: &[P], alloc: Global) -> Result<Meta, AllocError>
     requires { All P.can_eval parsers.now }
-    ensures { IfOk result (λ meta. TupleDescribes P.describes parsers.now (shape_of meta)) }
+    ensures { IfOk result (λ meta.
+        describes_of (tuple_grammar P.grammar parsers.now) (shape_of meta)) }
 {
     match parsers {
         [a, b] => nested_meta::<Two, TwoFields<'_, P>>(two_fields(a, b), alloc),
@@ -131,7 +133,8 @@ pub fn or_else<P: Parser<Value> + Drop>(
     state: &mut State,
 ) -> Result<Value, Error>
     requires { All P.can_eval inner.now.parsers.items }
-    ensures { ChoicesOutcome P.outcome inner.now.parsers.items state.old result state.new }
+    ensures { outcome_of (choices_of P.grammar inner.now.parsers.items)
+        state.old result state.new }
 {
     match inner.parsers.as_slice() {
         [a, b] => {
@@ -159,7 +162,7 @@ pub fn or_else_meta<P: Parser<Value> + Drop>(
 ) -> Result<Meta, AllocError>
     requires { All P.can_eval inner.now.parsers.items }
     ensures { IfOk result (λ meta.
-        ChoicesDescribes P.describes inner.now.parsers.items (shape_of meta)) }
+        describes_of (choices_of P.grammar inner.now.parsers.items) (shape_of meta)) }
 {
     match inner.parsers.as_slice() {
         [a, b] => {

@@ -1,29 +1,24 @@
--- What one parser answers under a modifier or as a command, and what values are told as.
+-- One parser under a modifier or as a command, and what values are told as.
 use Rattle.std.specs.Prelude.{◌≡◌, ⊤, ℕ, ◌/◌, Bool, not, List, Result, Ok, Err, Option, Some, None}
 use Rattle.std.specs.declared.collections.VecDeque.{VecDeque}
-use Rattle.std.specs.Prelude.{◌⊎◌, true, [], ◌∷◌, All, ◌++◌, length, codes, refl, false}
+use Rattle.std.specs.Prelude.{◌⊎◌, true, [], ◌∷◌, All, codes, false}
 use Rattle.std.specs.{declared.alloc.Global.Global, Global.Box, Global.Vec}
 use Rattle.bench_values.specs.declared.value.Value.TheVariants.{Absent, Present, Tuple}
 use Rattle.bench_values.specs.{declared.kind.Modifier.Modifier, declared.value.Value.Value}
 use Rattle.std.proofs.Common.{⊎_elim}
+use Rattle.std.proofs.Common.{ap, inl, inr, sym, true≢false, ◌∙◌}
+use Rattle.bpaf_laws.specs.Laws.{IsNotMemory, Spares}
+use Rattle.bpaf_grammar.specs.Grammar.{Grammar, answered, cloned, closed, collect, command, count}
+use Rattle.bpaf_grammar.specs.Grammar.{describes_of, dressed, fallback, guarded, hide, last, made}
+use Rattle.bpaf_grammar.specs.Grammar.{many, mapped, optional, outcome_of, own, parsed, reads_of}
+use Rattle.bpaf_grammar.specs.Grammar.{repeat, shorts_of, some}
+use Rattle.bpaf_grammar.specs.{Laws.lawful_of, Laws.shows_of, Own.Own}
 use Rattle.bpaf_line.specs.{declared.error.Message.TheVariants.Memory, Messages.is_memory}
-use Rattle.bpaf_laws.specs.Combinators.{MapReads, MapOutcome, ParseOutcome, GuardOutcome, Gives}
-use Rattle.bpaf_laws.specs.Combinators.{GivesClone, GivesAnswer, FallbackOutcome, NamesGiven}
-use Rattle.bpaf_laws.specs.Combinators.{OptionalReads, OptionalDescribes, is_nil, ListReads}
-use Rattle.bpaf_laws.specs.Combinators.{ManyOutcome, ManyDescribes, SomeOutcome, SomeDescribes}
-use Rattle.bpaf_laws.specs.Combinators.{CollectOutcome, CountOutcome, LastOutcome, HideOutcome}
-use Rattle.bpaf_laws.specs.{Command.Called, Command.CommandPart, Command.opening_words, Laws.Lawful}
-use Rattle.bpaf_laws.specs.{Combinators.TurnOutcome, Combinators.PureReads, Laws.ShowsNames}
-use Rattle.bpaf_laws.specs.{Laws.no_shorts, Reading.Readings, Reading.Outcome, Choice.ChoiceReads}
-use Rattle.bpaf_laws.proofs.CombinatorLaws.{map_lawful, parse_lawful, guard_lawful, optional_lawful}
-use Rattle.bpaf_laws.proofs.CombinatorLaws.{fallback_lawful, names_answer, many_lawful, some_lawful}
-use Rattle.bpaf_laws.proofs.Keeping.{names_want, names_same, keeps_same}
-use Rattle.bpaf_laws.proofs.ShownNames.{many_shows, one_shape, optional_shows, some_shows}
-use Rattle.bpaf_laws.proofs.CombinatorLaws.{collect_lawful, count_lawful, hide_lawful, last_lawful}
-use Rattle.bpaf_doc.specs.Shape.{Shape, Skip}
-use Rattle.bpaf_words.specs.Line.{ShortNames}
-use Rattle.bpaf_core.specs.{Command.EitherCommandOutcome, Command.EitherCommandReads, Ending.Ending}
-use Rattle.bpaf_core.specs.{Ending.EndsRun, Ending.run_ending, AdjacentLaws.either_lawful}
+use Rattle.bpaf_laws.specs.Combinators.{ParseOutcome, Gives}
+use Rattle.bpaf_laws.specs.Combinators.{GivesAnswer}
+use Rattle.bpaf_laws.specs.{Command.Called, Laws.Lawful}
+use Rattle.bpaf_laws.specs.{Reading.Readings, Reading.Outcome}
+use Rattle.bpaf_laws.proofs.Keeping.{names_same, keeps_same}
 use Rattle.bpaf_keys.specs.Info.{plain_info}
 use Rattle.bench_values.specs.declared.value.Value.TheVariants as value
 use Rattle.bench_values.specs.declared.kind.Modifier.TheVariants as over
@@ -53,23 +48,6 @@ AnswersNumber None (Err e) = ⊤
 -- the text of a fault isn't said
 abbrev pub untold : {E : Type 0} → E → Option (List ℕ)
 untold fault = None
-
--- what is told of the inner answer; or want of memory for that
-abbrev pub ToldOutcome : {T R : Type 0} → Outcome T → (T → R → Type 0) → Outcome R
-ToldOutcome {T} inner told s (Ok v) t = (x : T) × inner s (Ok x) t × told x v
-ToldOutcome {T} inner told s (Err e) t =
-    inner s (Err e) t ⊎ ((x : T) × inner s (Ok x) t × (is_memory e.0 ≡ true))
-
--- it keeps to the laws where the inner parser does
-pub told_lawful : {T R : Type 0} {inner : Outcome T} {reads : Readings T} (told : T → R → Type 0)
-    → Lawful T inner reads → Lawful R (ToldOutcome inner told) (MapReads T R reads told)
-told_lawful told law = record {
-  ok = λ s t v o. (map_lawful law told).ok s t v o;
-  err = λ s t e o. ⊎_elim (λ refused. law.err s t e refused)
-      (λ wanted. (law.ok s t wanted.0 wanted.1).keeps) o;
-  named = λ s t e o.
-      ⊎_elim (λ refused. law.named s t e refused) (λ wanted. names_want _ e.0 wanted.2) o;
-}
 
 -- an optional value
 abbrev pub ToldOption : Option Value → Value → Type 0
@@ -134,152 +112,62 @@ GivesNumber number = GivesAnswer {T = Value} {E = Unit {0}} (AnswersNumber numbe
 abbrev pub AcceptOutcome : Outcome Value → Outcome Value
 AcceptOutcome inner = ParseOutcome {T = Value} {R = Value} {E = Unit {0}} inner Accepts untold
 
--- an inner reading, of which the value stays
-abbrev pub AcceptReads : Readings Value → Readings Value
-AcceptReads reads = MapReads Value Value reads (λ x v. v ≡ x)
-
 -- which values are clones of one another
 abbrev pub Clones : Type 1
 Clones = Value → Value → Type 0
 
--- what one parser answers under a modifier; the clones are those of a value
-abbrev pub OverOutcome : Clones → Modifier → Outcome Value → Outcome Value
-OverOutcome clones over.Same inner = inner
-OverOutcome clones (over.Optional catch) inner =
-    ToldOutcome (TurnOutcome inner catch true) ToldOption
-OverOutcome clones (over.Many catch) inner = ToldOutcome (ManyOutcome inner catch) ToldList
-OverOutcome clones (over.Some catch) inner = ToldOutcome (SomeOutcome inner catch need_one) ToldList
-OverOutcome clones (over.Collect catch) inner =
-    ToldOutcome (CollectOutcome inner catch FillsQueue) ToldQueue
-OverOutcome clones over.Count inner = ToldOutcome (CountOutcome inner) ToldCount
-OverOutcome clones over.Last inner = LastOutcome inner
-OverOutcome clones over.Map inner = MapOutcome inner IsHalf
-OverOutcome clones (over.Guard limit) inner = GuardOutcome inner Checks too_much
-OverOutcome clones (over.Parse limit) inner = AcceptOutcome inner
-OverOutcome clones (over.Fallback n) inner = FallbackOutcome inner (GivesClone clones (number_of n))
-OverOutcome clones (over.FallbackWith number) inner = FallbackOutcome inner (GivesNumber number)
-OverOutcome clones over.Hide inner = HideOutcome inner
+-- a parser under a modifier; the clones are those of a value
+abbrev pub over_grammar : Clones → Modifier → Grammar Value → Grammar Value
+over_grammar clones over.Same g = g
+over_grammar clones (over.Optional catch) g = made ToldOption (optional catch g)
+over_grammar clones (over.Many catch) g = made ToldList (repeat (many catch) g)
+over_grammar clones (over.Some catch) g = made ToldList (repeat (some catch need_one) g)
+over_grammar clones (over.Collect catch) g = made ToldQueue (repeat (collect catch FillsQueue) g)
+over_grammar clones over.Count g = made ToldCount (repeat count g)
+over_grammar clones over.Last g = last g
+over_grammar clones over.Map g = closed (mapped IsHalf) g
+over_grammar clones (over.Guard limit) g = closed (guarded Checks too_much) g
+over_grammar clones (over.Parse limit) g = closed (parsed {E = Unit {0}} Accepts untold) g
+over_grammar clones (over.Fallback n) g = fallback None (cloned clones (number_of n)) g
+over_grammar clones (over.FallbackWith number) g =
+    fallback None (answered {E = Unit {0}} (AnswersNumber number) untold) g
+over_grammar clones over.Hide g = dressed hide g
 
--- what is made of a list of inner readings
-abbrev pub OfList : (R : Type 0) → Readings Value → (List Value → R → Type 0) → Readings R
-OfList R reads makes = MapReads (List Value) R (ListReads reads) makes
+-- what a parser answers; or want of memory before it
+abbrev pub OrMemory : Outcome Value → Outcome Value
+OrMemory inner s (Ok v) t = inner s (Ok v) t
+OrMemory inner s (Err e) t = inner s (Err e) t ⊎ ((e.0 ≡ Memory) × (t ≡ s))
 
--- what is read under a modifier
-abbrev pub OverReads : Clones → Modifier → Readings Value → Readings Value
-OverReads clones over.Same reads = reads
-OverReads clones (over.Optional catch) reads =
-    MapReads (Option Value) Value (OptionalReads reads) ToldOption
-OverReads clones (over.Many catch) reads =
-    MapReads (Vec Value) Value (OfList (Vec Value) reads (λ values v. v.items ≡ values)) ToldList
-OverReads clones (over.Some catch) reads =
-    MapReads (Vec Value) Value
-    (OfList (Vec Value) reads (λ values v. (v.items ≡ values) × (is_nil values ≡ false))) ToldList
-OverReads clones (over.Collect catch) reads =
-    MapReads (VecDeque Value Global) Value (OfList (VecDeque Value Global) reads FillsQueue)
-    ToldQueue
-OverReads clones over.Count reads =
-    MapReads ℕ Value (OfList ℕ reads (λ values n. n ≡ length values)) ToldCount
-OverReads clones over.Last reads =
-    OfList Value reads (λ values v. (before : List Value) × (values ≡ before ++ v ∷ []))
-OverReads clones over.Map reads = MapReads Value Value reads IsHalf
-OverReads clones (over.Guard limit) reads = MapReads Value Value reads (λ x v. (v ≡ x)
-    × Checks x true)
-OverReads clones (over.Parse limit) reads = AcceptReads reads
-OverReads clones (over.Fallback n) reads = ChoiceReads reads (PureReads (clones (number_of n)))
-OverReads clones (over.FallbackWith number) reads =
-    ChoiceReads reads (PureReads (λ v. GivesNumber number (Ok v)))
-OverReads clones over.Hide reads = reads
+-- it keeps to the laws where the parser does
+pub or_memory_lawful : {inner : Outcome Value} {reads : Readings Value} → Lawful Value inner reads
+    → Lawful Value (OrMemory inner) reads
+or_memory_lawful law = record {
+  ok = λ s t v o. law.ok s t v o;
+  err = λ s t e o. ⊎_elim (λ refused. law.err s t e refused) (λ wanted. keeps_same s t wanted.1) o;
+  named = λ s t e o. ⊎_elim (λ refused. law.named s t e refused)
+      (λ wanted. names_same _ e.0 Memory tt wanted.0) o;
+}
 
--- what is shown under a modifier
-abbrev pub OverDescribes : Modifier → (Shape → Type 0) → Shape → Type 0
-OverDescribes (over.Optional catch) inner shape = OptionalDescribes inner shape
-OverDescribes (over.Many catch) inner shape = ManyDescribes inner shape
-OverDescribes (over.Some catch) inner shape = SomeDescribes inner shape
-OverDescribes (over.Collect catch) inner shape = ManyDescribes inner shape
-OverDescribes over.Count inner shape = ManyDescribes inner shape
-OverDescribes over.Last inner shape = SomeDescribes inner shape
-OverDescribes (over.Fallback n) inner shape = OptionalDescribes inner shape
-OverDescribes (over.FallbackWith number) inner shape = OptionalDescribes inner shape
-OverDescribes over.Hide inner shape = shape ≡ Skip
-OverDescribes _ inner shape = inner shape
+-- an answer that isn't want of memory is the parser's
+pub or_memory_spares : (inner : Outcome Value) → Spares (OrMemory inner) inner
+or_memory_spares inner s t (Ok v) o spared = o
+or_memory_spares inner s t (Err e) (inl refused) spared = refused
+or_memory_spares inner s t (Err e) (inr wanted) spared =
+    absurd (true≢false (sym (ap is_memory wanted.0) ∙ spared))
 
--- the short names that it shows
-abbrev pub over_shorts : Modifier → ShortNames → ShortNames
-over_shorts over.Hide names = no_shorts
-over_shorts _ names = names
+-- a parser for which memory may be wanted
+abbrev pub or_memory : Grammar Value → Own Value
+or_memory g = record {
+  outcome = OrMemory (outcome_of g);
+  reads = reads_of g;
+  describes = describes_of g;
+  shorts = shorts_of g;
+  spared = λ s r t. IsNotMemory r → outcome_of g s r t;
+  lawful = or_memory_lawful (lawful_of g);
+  shows = shows_of g;
+  spares = or_memory_spares (outcome_of g);
+}
 
--- so it does where its parser shows its own
-pub over_shows : {inner : Shape → Type 0} {names : ShortNames} (m : Modifier)
-    → ShowsNames inner names → ShowsNames (OverDescribes m inner) (over_shorts m names)
-over_shows (over.Optional catch) shows = optional_shows shows
-over_shows (over.Many catch) shows = many_shows shows
-over_shows (over.Some catch) shows = some_shows shows
-over_shows (over.Collect catch) shows = many_shows shows
-over_shows over.Count shows = many_shows shows
-over_shows over.Last shows = some_shows shows
-over_shows (over.Fallback n) shows = optional_shows shows
-over_shows (over.FallbackWith number) shows = optional_shows shows
-over_shows over.Hide shows = one_shape refl
-over_shows _ shows = shows
-
--- a number that is refused is the answer of no run inside
-pub number_named : (number : Option ℕ) → NamesGiven (GivesNumber number)
-number_named number = names_answer {T = Value} {E = Unit {0}} (AnswersNumber number) untold
-
--- a modifier keeps to the laws where its parser does
-pub over_lawful : {inner : Outcome Value} {reads : Readings Value} (clones : Clones) (m : Modifier)
-    → Lawful Value inner reads
-    → Lawful Value (OverOutcome clones m inner) (OverReads clones m reads)
-over_lawful clones over.Same law = law
-over_lawful clones (over.Optional catch) law = told_lawful ToldOption (optional_lawful law catch)
-over_lawful clones (over.Many catch) law = told_lawful ToldList (many_lawful law catch)
-over_lawful clones (over.Some catch) law = told_lawful ToldList (some_lawful law catch need_one)
-over_lawful clones (over.Collect catch) law =
-    told_lawful ToldQueue (collect_lawful law catch FillsQueue)
-over_lawful clones over.Count law = told_lawful ToldCount (count_lawful law)
-over_lawful clones over.Last law = last_lawful law
-over_lawful clones over.Map law = map_lawful law IsHalf
-over_lawful clones (over.Guard limit) law = guard_lawful law Checks too_much
-over_lawful clones (over.Parse limit) law = parse_lawful law Accepts untold
-over_lawful clones (over.Fallback n) law =
-    fallback_lawful law (GivesClone clones (number_of n)) (λ context e. names_want context e.0)
-over_lawful clones (over.FallbackWith number) law =
-    fallback_lawful law (GivesNumber number) (number_named number)
-over_lawful clones over.Hide law = hide_lawful law
-
--- how the run of such a command ends: nothing is set beside its parser
-abbrev pub PlainEnding : (Shape → Type 0) → Ending
-PlainEnding describes = EndsRun describes plain_info
-
--- what a command of these names answers, adjacent or plain, without a help
-abbrev pub HelplessOutcome : Bool → Called → Outcome Value → (Shape → Type 0) → Outcome Value
-HelplessOutcome adjacent called inner describes =
-    EitherCommandOutcome adjacent Value inner (PlainEnding describes) called
-    (CommandPart called None describes)
-
--- that; or want of memory for a copy of its names
-abbrev pub CalledOutcome : Bool → Called → Outcome Value → (Shape → Type 0) → Outcome Value
-CalledOutcome adjacent called inner describes s (Ok v) t =
-    HelplessOutcome adjacent called inner describes s (Ok v) t
-CalledOutcome adjacent called inner describes s (Err e) t =
-    HelplessOutcome adjacent called inner describes s (Err e) t ⊎ ((e.0 ≡ Memory) × (t ≡ s))
-
--- what is read of it
-abbrev pub CalledReads : Bool → Called → Readings Value → Readings Value
-CalledReads adjacent called reads = EitherCommandReads adjacent Value (opening_words called) reads
-
--- it keeps to the laws where its parser does
-pub called_lawful : {inner : Outcome Value} {reads : Readings Value} (adjacent : Bool)
-    (called : Called) (describes : Shape → Type 0) → Lawful Value inner reads
-    → Lawful Value (CalledOutcome adjacent called inner describes)
-    (CalledReads adjacent called reads)
-called_lawful adjacent called describes law =
-    let command = either_lawful law (run_ending describes plain_info) called
-    (CommandPart called None describes) adjacent in
-    record {
-      ok = λ s t v o. command.ok s t v o;
-      err = λ s t e o.
-          ⊎_elim (λ refused. command.err s t e refused) (λ wanted. keeps_same s t wanted.1) o;
-      named = λ s t e o. ⊎_elim (λ refused. command.named s t e refused)
-          (λ wanted. names_same _ e.0 Memory tt wanted.0) o;
-    }
+-- a command of these names, adjacent or plain, without a help; memory is wanted for its names
+abbrev pub called_grammar : Bool → Called → Grammar Value → Grammar Value
+called_grammar adjacent called g = own (or_memory (command adjacent called plain_info None g))

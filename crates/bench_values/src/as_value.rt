@@ -1,5 +1,5 @@
 //! A parser of any type, as one of the bench's values.
-ghost use Rattle.bench_values.specs.Modifiers.{ToldOutcome};
+ghost use Rattle.bpaf_grammar.specs.{Grammar.outcome_of, Own.MadeOutcome};
 
 use crate::value::{Told, Value};
 use bpaf_core::Parser;
@@ -18,19 +18,11 @@ pub struct AsValue<T, P> {
 }
 
 impl<T: Told + Drop, P: Parser<T>> Parser<Value> for AsValue<T, P> {
-    ghost use Rattle.bpaf_laws.specs.Combinators.{MapReads};
-    ghost use Rattle.bench_values.specs.declared.value.Value.{Value};
-    ghost use Rattle.bench_values.specs.Modifiers.{ToldOutcome, told_lawful};
+    ghost use Rattle.bpaf_grammar.specs.Grammar.{made};
 
     ghost can_eval = { λ p. P.can_eval p.inner };
 
-    ghost describes = { λ p. P.describes p.inner };
-
-    ghost shorts = { λ p. P.shorts p.inner };
-
-    ghost reads = { λ p. MapReads T Value (P.reads p.inner) T.told };
-
-    ghost outcome = { λ p. ToldOutcome (P.outcome p.inner) T.told };
+    ghost grammar = { λ p. made T.told (P.grammar p.inner) };
 
     fn eval(&self, state: &mut State) -> Result<Value, Error> {
         let value = self.inner.eval(state)?;
@@ -40,10 +32,6 @@ impl<T: Told + Drop, P: Parser<T>> Parser<Value> for AsValue<T, P> {
     fn meta(&self, alloc: Global) -> Result<Meta, AllocError> {
         self.inner.meta(alloc)
     }
-
-    ghost lawful = { λ p. told_lawful T.told (P.lawful p.inner) };
-
-    ghost shows = { λ p. P.shows p.inner };
 }
 
 /// The value of a parser, told as one of all parsers.
@@ -52,7 +40,7 @@ pub fn tell<T: Told + Drop, P: Parser<T> + Drop>(
     state: &mut State,
 ) -> Result<Value, Error>
     requires { P.can_eval inner }
-    ensures { ToldOutcome (P.outcome inner) T.told state.old result state.new }
+    ensures { MadeOutcome (outcome_of (P.grammar inner)) T.told state.old result state.new }
 {
     let parser: AsValue<T, P> = AsValue {
         inner,

@@ -1,8 +1,9 @@
 //! A described command, made anew for each evaluation.
+ghost use Rattle.bpaf_grammar.specs.Grammar.{outcome_of, describes_of};
 ghost use Rattle.std.specs.Prelude.{IfOk, None};
 ghost use Rattle.bpaf_doc.specs.Shape.{shape_of};
 ghost use Rattle.bpaf_laws.specs.Command.{CommandDescribes};
-ghost use Rattle.bench_values.specs.Modifiers.{CalledOutcome};
+ghost use Rattle.bench_values.specs.Modifiers.{called_grammar};
 
 use crate::lent::Lent;
 use crate::value::Value;
@@ -20,7 +21,7 @@ pub fn called<P: Parser<Value>>(
     state: &mut State,
 ) -> Result<Value, Error>
     requires { P.can_eval inner.now }
-    ensures { CalledOutcome adjacent names.now (P.outcome inner.now) (P.describes inner.now)
+    ensures { outcome_of (called_grammar adjacent names.now (P.grammar inner.now))
         state.old result state.new }
 {
     let names = names.copy()?;
@@ -44,7 +45,7 @@ pub fn called_meta<P: Parser<Value>>(
 ) -> Result<Meta, AllocError>
     requires { P.can_eval inner.now }
     ensures { IfOk result (λ meta.
-        CommandDescribes names.now None (P.describes inner.now) (shape_of meta)) }
+        CommandDescribes names.now None (describes_of (P.grammar inner.now)) (shape_of meta)) }
 {
     let names = names.copy()?;
     let parser: ParseCommand<Value, Lent<'_, P>> = ParseCommand {

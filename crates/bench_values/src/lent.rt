@@ -14,13 +14,7 @@ pub struct Lent<'p, P> {
 impl<'p, T, P: Parser<T>> Parser<T> for Lent<'p, P> {
     ghost can_eval = { λ p. P.can_eval p.inner.now };
 
-    ghost describes = { λ p. P.describes p.inner.now };
-
-    ghost shorts = { λ p. P.shorts p.inner.now };
-
-    ghost reads = { λ p. P.reads p.inner.now };
-
-    ghost outcome = { λ p. P.outcome p.inner.now };
+    ghost grammar = { λ p. P.grammar p.inner.now };
 
     fn eval(&self, state: &mut State) -> Result<T, Error> {
         self.inner.eval(state)
@@ -29,8 +23,4 @@ impl<'p, T, P: Parser<T>> Parser<T> for Lent<'p, P> {
     fn meta(&self, alloc: Global) -> Result<Meta, AllocError> {
         self.inner.meta(alloc)
     }
-
-    ghost lawful = { λ p. P.lawful p.inner.now };
-
-    ghost shows = { λ p. P.shows p.inner.now };
 }

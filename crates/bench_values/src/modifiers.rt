@@ -1,4 +1,5 @@
 //! The combinators over one described parser.
+ghost use Rattle.bpaf_grammar.specs.Grammar.{outcome_of, describes_of};
 ghost use Rattle.std.specs.Prelude.{IfOk, true};
 ghost use Rattle.bpaf_doc.specs.Shape.{shape_of};
 ghost use Rattle.bpaf_laws.specs.Combinators.{HideOutcome, FallbackOutcome, GivesClone};
@@ -6,9 +7,10 @@ ghost use Rattle.bpaf_laws.specs.Combinators.{OptionalDescribes, CollectOutcome,
 ghost use Rattle.bpaf_laws.specs.Combinators.{LastOutcome, ManyDescribes, ManyOutcome};
 ghost use Rattle.bpaf_laws.specs.Combinators.{SomeDescribes, SomeOutcome, TurnOutcome};
 ghost use Rattle.bpaf_laws.specs.Combinators.{GuardOutcome, MapOutcome};
-ghost use Rattle.bench_values.specs.Modifiers.{Checks, IsHalf, ToldOutcome, ToldOption, ToldQueue};
+ghost use Rattle.bpaf_grammar.specs.Own.{MadeOutcome};
+ghost use Rattle.bench_values.specs.Modifiers.{Checks, IsHalf, ToldOption, ToldQueue};
 ghost use Rattle.bench_values.specs.Modifiers.{AcceptOutcome, FillsQueue, GivesNumber};
-ghost use Rattle.bench_values.specs.Modifiers.{OverDescribes, OverOutcome, ToldCount, ToldList};
+ghost use Rattle.bench_values.specs.Modifiers.{over_grammar, ToldCount, ToldList};
 ghost use Rattle.bench_values.specs.Modifiers.{need_one, number_of, too_much};
 
 use crate::as_value::tell;
@@ -29,7 +31,7 @@ use std::marker::PhantomData;
 /// The value of a parser, or nothing.
 fn optional<P: Parser<Value>>(inner: &P, catch: bool, state: &mut State) -> Result<Value, Error>
     requires { P.can_eval inner.now }
-    ensures { ToldOutcome (TurnOutcome (P.outcome inner.now) catch true) ToldOption
+    ensures { MadeOutcome (TurnOutcome (outcome_of (P.grammar inner.now)) catch true) ToldOption
         state.old result state.new }
 {
     let inner = Lent { inner };
@@ -39,7 +41,7 @@ fn optional<P: Parser<Value>>(inner: &P, catch: bool, state: &mut State) -> Resu
 /// The values of a parser.
 fn many<P: Parser<Value>>(inner: &P, catch: bool, state: &mut State) -> Result<Value, Error>
     requires { P.can_eval inner.now }
-    ensures { ToldOutcome (ManyOutcome (P.outcome inner.now) catch) ToldList
+    ensures { MadeOutcome (ManyOutcome (outcome_of (P.grammar inner.now)) catch) ToldList
         state.old result state.new }
 {
     let inner = Lent { inner };
@@ -49,7 +51,7 @@ fn many<P: Parser<Value>>(inner: &P, catch: bool, state: &mut State) -> Result<V
 /// The values of a parser, one at least.
 fn some<P: Parser<Value>>(inner: &P, catch: bool, state: &mut State) -> Result<Value, Error>
     requires { P.can_eval inner.now }
-    ensures { ToldOutcome (SomeOutcome (P.outcome inner.now) catch need_one) ToldList
+    ensures { MadeOutcome (SomeOutcome (outcome_of (P.grammar inner.now)) catch need_one) ToldList
         state.old result state.new }
 {
     let parser = ParseSome {
@@ -63,7 +65,7 @@ fn some<P: Parser<Value>>(inner: &P, catch: bool, state: &mut State) -> Result<V
 /// The values of a parser, in a queue.
 fn queue<P: Parser<Value>>(inner: &P, catch: bool, state: &mut State) -> Result<Value, Error>
     requires { P.can_eval inner.now }
-    ensures { ToldOutcome (CollectOutcome (P.outcome inner.now) catch FillsQueue) ToldQueue
+    ensures { MadeOutcome (CollectOutcome (outcome_of (P.grammar inner.now)) catch FillsQueue) ToldQueue
         state.old result state.new }
 {
     let parser: ParseCollect<Lent<'_, P>, VecDeque<Value>, Value> = ParseCollect {
@@ -78,7 +80,7 @@ fn queue<P: Parser<Value>>(inner: &P, catch: bool, state: &mut State) -> Result<
 /// The number of a parser's values.
 fn count<P: Parser<Value>>(inner: &P, state: &mut State) -> Result<Value, Error>
     requires { P.can_eval inner.now }
-    ensures { ToldOutcome (CountOutcome (P.outcome inner.now)) ToldCount
+    ensures { MadeOutcome (CountOutcome (outcome_of (P.grammar inner.now))) ToldCount
         state.old result state.new }
 {
     let parser: ParseCount<Lent<'_, P>, Value> = ParseCount {
@@ -91,7 +93,7 @@ fn count<P: Parser<Value>>(inner: &P, state: &mut State) -> Result<Value, Error>
 /// The last value of a parser.
 fn last<P: Parser<Value>>(inner: &P, state: &mut State) -> Result<Value, Error>
     requires { P.can_eval inner.now }
-    ensures { LastOutcome (P.outcome inner.now) state.old result state.new }
+    ensures { LastOutcome (outcome_of (P.grammar inner.now)) state.old result state.new }
 {
     let inner = Lent { inner };
     let parser: ParseLast<Lent<'_, P>> = ParseLast { inner };
@@ -101,7 +103,7 @@ fn last<P: Parser<Value>>(inner: &P, state: &mut State) -> Result<Value, Error>
 /// The value of a parser, changed.
 fn mapped<P: Parser<Value>>(inner: &P, state: &mut State) -> Result<Value, Error>
     requires { P.can_eval inner.now }
-    ensures { MapOutcome (P.outcome inner.now) IsHalf state.old result state.new }
+    ensures { MapOutcome (outcome_of (P.grammar inner.now)) IsHalf state.old result state.new }
 {
     let parser = ParseMap {
         inner: Lent { inner },
@@ -115,7 +117,7 @@ fn mapped<P: Parser<Value>>(inner: &P, state: &mut State) -> Result<Value, Error
 /// The value of a parser, if its weight is below the limit.
 fn guarded<P: Parser<Value>>(inner: &P, limit: u64, state: &mut State) -> Result<Value, Error>
     requires { P.can_eval inner.now }
-    ensures { GuardOutcome (P.outcome inner.now) Checks too_much state.old result state.new }
+    ensures { GuardOutcome (outcome_of (P.grammar inner.now)) Checks too_much state.old result state.new }
 {
     let parser = ParseGuard {
         inner: Lent { inner },
@@ -128,7 +130,7 @@ fn guarded<P: Parser<Value>>(inner: &P, limit: u64, state: &mut State) -> Result
 /// The value of a parser, if its weight is below the limit; else a fault.
 fn parsed<P: Parser<Value>>(inner: &P, limit: u64, state: &mut State) -> Result<Value, Error>
     requires { P.can_eval inner.now }
-    ensures { AcceptOutcome (P.outcome inner.now) state.old result state.new }
+    ensures { AcceptOutcome (outcome_of (P.grammar inner.now)) state.old result state.new }
 {
     let parser = ParseWith {
         inner: Lent { inner },
@@ -143,7 +145,7 @@ fn parsed<P: Parser<Value>>(inner: &P, limit: u64, state: &mut State) -> Result<
 /// The value of a parser, or a number.
 fn fallback<P: Parser<Value>>(inner: &P, number: u64, state: &mut State) -> Result<Value, Error>
     requires { P.can_eval inner.now }
-    ensures { FallbackOutcome (P.outcome inner.now)
+    ensures { FallbackOutcome (outcome_of (P.grammar inner.now))
         (GivesClone ⟦<Value as Clone>⟧.is_clone (number_of number)) state.old result state.new }
 {
     let inner = Lent { inner };
@@ -163,7 +165,7 @@ fn fallback_with<P: Parser<Value>>(
     state: &mut State,
 ) -> Result<Value, Error>
     requires { P.can_eval inner.now }
-    ensures { FallbackOutcome (P.outcome inner.now) (GivesNumber number)
+    ensures { FallbackOutcome (outcome_of (P.grammar inner.now)) (GivesNumber number)
         state.old result state.new }
 {
     let parser = ParseFallbackWith {
@@ -179,7 +181,7 @@ fn fallback_with<P: Parser<Value>>(
 /// The value of a parser; where it is missing, no item is named.
 fn hidden<P: Parser<Value>>(inner: &P, state: &mut State) -> Result<Value, Error>
     requires { P.can_eval inner.now }
-    ensures { HideOutcome (P.outcome inner.now) state.old result state.new }
+    ensures { HideOutcome (outcome_of (P.grammar inner.now)) state.old result state.new }
 {
     let inner = Lent { inner };
     let parser: ParseHide<Lent<'_, P>> = ParseHide { inner };
@@ -193,8 +195,8 @@ pub fn modified<P: Parser<Value>>(
     state: &mut State,
 ) -> Result<Value, Error>
     requires { P.can_eval inner.now }
-    ensures { OverOutcome ⟦<Value as Clone>⟧.is_clone modifier (P.outcome inner.now)
-        state.old result state.new }
+    ensures { outcome_of (over_grammar ⟦<Value as Clone>⟧.is_clone modifier
+        (P.grammar inner.now)) state.old result state.new }
 {
     match modifier {
         Modifier::Same => inner.eval(state),
@@ -216,7 +218,7 @@ pub fn modified<P: Parser<Value>>(
 /// What an optional value shows.
 fn optional_meta<P: Parser<Value>>(inner: &P, alloc: Global) -> Result<Meta, AllocError>
     requires { P.can_eval inner.now }
-    ensures { IfOk result (λ meta. OptionalDescribes (P.describes inner.now) (shape_of meta)) }
+    ensures { IfOk result (λ meta. OptionalDescribes (describes_of (P.grammar inner.now)) (shape_of meta)) }
 {
     let inner = Lent { inner };
     let parser: ParseOptional<Lent<'_, P>> = ParseOptional {
@@ -229,7 +231,7 @@ fn optional_meta<P: Parser<Value>>(inner: &P, alloc: Global) -> Result<Meta, All
 /// What a repeat shows.
 fn many_meta<P: Parser<Value>>(inner: &P, alloc: Global) -> Result<Meta, AllocError>
     requires { P.can_eval inner.now }
-    ensures { IfOk result (λ meta. ManyDescribes (P.describes inner.now) (shape_of meta)) }
+    ensures { IfOk result (λ meta. ManyDescribes (describes_of (P.grammar inner.now)) (shape_of meta)) }
 {
     let inner = Lent { inner };
     let parser: ParseMany<Lent<'_, P>> = ParseMany {
@@ -242,7 +244,7 @@ fn many_meta<P: Parser<Value>>(inner: &P, alloc: Global) -> Result<Meta, AllocEr
 /// What a repeat shows that has one value at least.
 fn some_meta<P: Parser<Value>>(inner: &P, alloc: Global) -> Result<Meta, AllocError>
     requires { P.can_eval inner.now }
-    ensures { IfOk result (λ meta. SomeDescribes (P.describes inner.now) (shape_of meta)) }
+    ensures { IfOk result (λ meta. SomeDescribes (describes_of (P.grammar inner.now)) (shape_of meta)) }
 {
     let inner = Lent { inner };
     let parser: ParseLast<Lent<'_, P>> = ParseLast { inner };
@@ -256,8 +258,8 @@ pub fn modified_meta<P: Parser<Value>>(
     alloc: Global,
 ) -> Result<Meta, AllocError>
     requires { P.can_eval inner.now }
-    ensures { IfOk result (λ meta.
-        OverDescribes modifier (P.describes inner.now) (shape_of meta)) }
+    ensures { IfOk result (λ meta. describes_of (over_grammar ⟦<Value as Clone>⟧.is_clone modifier
+        (P.grammar inner.now)) (shape_of meta)) }
 {
     match modifier {
         Modifier::Same | Modifier::Map | Modifier::Guard(_) | Modifier::Parse(_) => {

@@ -19,7 +19,7 @@ use Rattle.bpaf_core.specs.{Ending.Shows, Ending.shows_help_page, Ending.leftove
 use Rattle.bpaf_core.specs.{Run.RunsWords, ExtraParams.ExtraParams, Rendering.Renders, Info.RunInfo}
 use Rattle.bpaf.specs.Asked.{CameTo, HandsOn, IfShown, IsAskedAt, RunShows, Showing}
 use Rattle.bpaf.specs.Asked.{WordsShow, inner_answer}
-use Rattle.bpaf.specs.{declared.leaves.positional.Position.Position, Positional.PositionalOutcome}
+use Rattle.bpaf_grammar.specs.{declared.position.Position.Position, Positional.PositionalOutcome}
 use Rattle.bpaf_line.specs.declared.error.Message.TheVariants as message
 use Rattle.bpaf_line.specs.declared.failure.ParseFailure.TheVariants as failure
 use Rattle.bpaf_core.specs.ExtraParams.TheVariants as extra

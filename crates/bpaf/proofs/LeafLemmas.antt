@@ -1,20 +1,17 @@
--- Leaves: how the answer of a positional word is put together, that want of memory is told as
--- nothing else, and that a key reads the same without its help.
+-- Leaves: how the answer of a positional word is put together, which items were passed by, and a key
+-- with a help.
 use Rattle.std.proofs.Common.{◌≡◌, ℕ, Bool, true, false, List, Result, Ok, Err, inr, sym, refl}
-use Rattle.std.proofs.Common.{Option, true≢false, ◌∙◌, ap, inl, [], ◌∷◌, ◌++◌, append_assoc, None}
+use Rattle.std.proofs.Common.{true≢false, ◌∙◌, ap, [], ◌∷◌, ◌++◌, append_assoc, None}
 use Rattle.std.proofs.lemmas.List.Elements.{All-push}
-use Rattle.bpaf_line.specs.declared.error.Message.TheVariants.{Memory, ParseFailed, Missing}
+use Rattle.bpaf_line.specs.declared.error.Message.TheVariants.{Memory, ParseFailed}
 use Rattle.bpaf_line.specs.Situation.{Situation}
 use Rattle.bpaf_line.specs.{declared.error.Message.Message, declared.error.Error.Error}
-use Rattle.bpaf_line.specs.{Taking.TakesText, Taking.open_items, Messages.is_memory}
+use Rattle.bpaf_line.specs.{Taking.TakesText, Taking.open_items}
 use Rattle.bpaf_laws.specs.Reading.{ReadsValue, FaultsText}
-use Rattle.bpaf_laws.specs.Leaves.{AnyFails, AnyOutcome, ArePassed, Looks, looked_at}
-use Rattle.bpaf_laws.specs.Combinators.{GivesAnswer, GivesRefusal}
-use Rattle.bpaf.specs.Positional.{PositionalOutcome, PositionalFails, accepts, misplaced}
-use Rattle.bpaf.specs.Positional.{FaultsWordAlone, PassesAll, TellsAnswer, TellsWhole}
-use Rattle.bpaf.specs.{declared.leaves.positional.Position.Position}
-use Rattle.std.specs.Result.{IfErr}
-use Rattle.bpaf_doc.specs.{Shape.Part, declared.doc.Piece.Piece}
+use Rattle.bpaf_laws.specs.Leaves.{ArePassed, Looks}
+use Rattle.bpaf_grammar.specs.Positional.{PositionalOutcome, PositionalFails, accepts, misplaced}
+use Rattle.bpaf_grammar.specs.{declared.position.Position.Position}
+use Rattle.bpaf_doc.specs.{declared.doc.Piece.Piece}
 use Rattle.bpaf_base.specs.{declared.arg.Arg.Arg, Items.item_text}
 use Rattle.bpaf_text.specs.Named.{KeyWithValue, with_help}
 
@@ -46,46 +43,6 @@ module _ {T : Type 0} (means : List ℕ → T → Type 0) (position : Position) 
           → PositionalFails means position metavar s (misplaced b place metavar) t
       by_side true wrong takes = (wrong, refl, (text, takes))
       by_side false wrong takes = (wrong, refl, (text, takes))
-
--- an item is passed by where no memory was wanted for it
-pub any_passes_all : {T : Type 0} (looks : Looks T) (part : Part) (anywhere : Bool)
-    (s t : Situation) (r : Result T Error) → AnyOutcome looks part anywhere s r t
-    → IfErr r (PassesAll looks anywhere s)
-any_passes_all looks part anywhere s t (Ok v) answered = tt
-any_passes_all looks part anywhere s t (Err e) answered = λ spared. by_message e.0 answered spared
-  where
-    -- by the message of the refusal
-    by_message : (m : Message) → AnyFails looks part anywhere s m t → is_memory m ≡ false
-        → ArePassed looks (looked_at anywhere s)
-    by_message Memory fails spared = absurd (true≢false spared)
-    by_message (Missing items) fails spared = fails.0.0
-    by_message _ fails spared = absurd fails
-
--- a word tells no fault of a text that means a value
-pub word_faults_alone : {T : Type 0} (means : List ℕ → T → Type 0) (position : Position)
-    (metavar : List ℕ) (s t : Situation) (r : Result T Error)
-    → PositionalOutcome means position metavar s r t → IfErr r (FaultsWordAlone means s t)
-word_faults_alone means position metavar s t (Ok v) answered = tt
-word_faults_alone means position metavar s t (Err e) answered = λ place fault is.
-    let failed = rw is at answered in (failed.0, failed.2.0)
-
--- want of memory isn't spared
-not_spared : {m : Message} → m ≡ Memory → is_memory m ≡ false → ⊥
-not_spared is spared = true≢false (sym (ap is_memory is) ∙ spared)
-
--- a refusal that is always given is told whole
-pub refusal_told : {T : Type 0} (message : List ℕ) (r : Result T Error) → GivesRefusal message r
-    → IfErr r (TellsWhole message)
-refusal_told message (Ok v) given = absurd given
-refusal_told message (Err e) (inl whole) = λ spared. whole
-refusal_told message (Err e) (inr is) = λ spared. absurd (not_spared is spared)
-
--- a closure's fault is told whole
-pub answer_told : {T E : Type 0} (answers : Result T E → Type 0) (shown : E → Option (List ℕ))
-    (r : Result T Error) → GivesAnswer answers shown r → IfErr r (TellsAnswer answers shown)
-answer_told answers shown (Ok v) given = tt
-answer_told answers shown (Err e) (fault, answered, inl is) = λ spared. absurd (not_spared is spared)
-answer_told answers shown (Err e) (fault, answered, inr told) = λ spared. (fault, answered, told)
 
 -- the items that were passed by, and those that are left; without `anywhere` none was passed by
 pub record HasPassed {T : Type 0} (looks : Looks T) (anywhere : Bool) (s : Situation)

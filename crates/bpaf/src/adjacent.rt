@@ -1,13 +1,13 @@
 //! Adjacent groups: products whose items stand next to one another.
+ghost use Rattle.bpaf_grammar.specs.Fast.{fast_product};
+ghost use Rattle.bpaf_grammar.specs.Grammar.{own, stretch};
+ghost use Rattle.bpaf_grammar.specs.Grammar.{describes_of};
 ghost use Rattle.std.specs.Prelude.{◌≡◌, ◌+◌, None, Some, Ok, Err, IfOk, IfErr};
 ghost use Rattle.bpaf_doc.specs.Shape.{part_of, shape_of};
-ghost use Rattle.bpaf_laws.specs.Product.{ProductDescribes, ProductOutcome};
-ghost use Rattle.bpaf_laws.specs.Adjacent.{GroupDescribes, GroupOutcome, IsStretch, StretchReads};
-ghost use Rattle.bpaf_laws.specs.{Laws.IsNotMemory, Laws.newly, Combinators.MapReads};
+ghost use Rattle.bpaf_laws.specs.Product.{ProductDescribes};
+ghost use Rattle.bpaf_laws.specs.Adjacent.{GroupDescribes};
 ghost use Rattle.bpaf.specs.Remembering.{IsFirstOf, IsRefused};
 ghost use Rattle.bpaf.specs.declared.adjacent.AdjacentError.TheVariants.{Memory};
-ghost use Rattle.bpaf_laws.proofs.ShownNames.{product_shows, group_shows};
-ghost use Rattle.bpaf_laws.proofs.{ProductLaws.product_lawful, AdjacentLaws.group_lawful};
 
 mod attempts;
 mod failures;
@@ -46,15 +46,8 @@ impl<'p, V, T, P: Fields<V>, M: Constructor<V, T>> Parser<T> for FailFast<'p, Pa
     ghost can_eval = { λ p. P.can_eval p.product.now.fields
         × M.can_make p.product.now.make };
 
-    ghost describes = { λ p. ProductDescribes (P.describes p.product.now.fields) };
-
-    ghost shorts = { λ p. P.shorts p.product.now.fields };
-
-    ghost reads = { λ p. MapReads V T (P.reads p.product.now.fields)
-        (M.makes p.product.now.make) };
-
-    ghost outcome = { λ p. ProductOutcome (P.fast_outcome p.product.now.fields)
-        (M.makes p.product.now.make) };
+    ghost grammar = { λ p.
+        own (fast_product (M.makes p.product.now.make) (P.grammar p.product.now.fields)) };
 
     fn eval(&self, state: &mut State) -> Result<T, Error> {
         let values = self.product.fields.eval_fail_fast(state);
@@ -65,17 +58,12 @@ impl<'p, V, T, P: Fields<V>, M: Constructor<V, T>> Parser<T> for FailFast<'p, Pa
     fn meta(&self, alloc: Global) -> Result<Meta, AllocError> {
         self.product.meta(alloc)
     }
-
-    ghost lawful = { λ p. product_lawful (M.makes p.product.now.make)
-        (P.fast_lawful p.product.now.fields) };
-
-    ghost shows = { λ p. product_shows (P.shows p.product.now.fields) };
 }
 
 /// What a parser shows, as items that stand side by side; refused only for want of memory.
 fn adjacent_meta<T, P: Parser<T>>(parser: &P, alloc: Global) -> Result<Meta, AllocError>
     requires { P.can_eval parser.now }
-    ensures { IfOk result (λ meta. GroupDescribes (P.describes parser.now) (shape_of meta)) }
+    ensures { IfOk result (λ meta. GroupDescribes (describes_of (P.grammar parser.now)) (shape_of meta)) }
 {
     Ok(Meta::Adjacent(Box::new(alloc, parser.meta(alloc)?)?))
 }
@@ -110,9 +98,9 @@ impl<V, P, M> ParseCon<V, P, M> {
         requires callable { M.can_make self.make }
         ensures inner { IfOk result (λ group. group.inner ≡ self) }
         ensures first { IfOk result (λ group.
-            IsFirstOf (ProductDescribes (P.describes self.fields)) group.first) }
+            IsFirstOf (ProductDescribes (describes_of (P.grammar self.fields))) group.first) }
         ensures none { IfErr result (λ error.
-            IsRefused (ProductDescribes (P.describes self.fields)) error) }
+            IsRefused (ProductDescribes (describes_of (P.grammar self.fields))) error) }
     {
         let meta = self.meta(alloc)?;
         let Some(first) = meta.first_item() else {
@@ -140,28 +128,10 @@ impl<V, T: Drop, P: Fields<V>, M: Constructor<V, T>> Parser<T>
     for ParseAdjacent<ParseCon<V, P, M>> {
     ghost can_eval = { λ p. P.can_eval p.inner.fields × M.can_make p.inner.make };
 
-    ghost describes = { λ p. GroupDescribes (ProductDescribes (P.describes p.inner.fields)) };
+    ghost grammar = { λ p. stretch (part_of p.first)
+        (own (fast_product (M.makes p.inner.make) (P.grammar p.inner.fields))) };
 
-    ghost shorts = { λ p. P.shorts p.inner.fields };
-
-    ghost reads = { λ p. StretchReads T (MapReads V T (P.reads p.inner.fields)
-        (M.makes p.inner.make)) };
-
-    ghost outcome = { λ p. GroupOutcome T (ProductOutcome (P.fast_outcome p.inner.fields)
-        (M.makes p.inner.make)) (part_of p.first) };
-
-    fn eval(&self, state: &mut State) -> Result<T, Error>
-        requires fields { P.can_eval self.now.inner.fields }
-        requires callable { M.can_make self.now.inner.make }
-        ensures outcome { GroupOutcome T (ProductOutcome (P.fast_outcome self.now.inner.fields)
-            (M.makes self.now.inner.make)) (part_of self.now.first)
-            state.old result state.new }
-        ensures takes_one_stretch { IfOk result (λ _. IsStretch (newly state.old state.new)) }
-        ensures memory_is_never_caught { IsNotMemory result →
-            GroupOutcome T (ProductOutcome (P.fast_spared_outcome self.now.inner.fields)
-            (M.makes self.now.inner.make)) (part_of self.now.first)
-            state.old result state.new }
-    {
+    fn eval(&self, state: &mut State) -> Result<T, Error> {
         let product = FailFast {
             product: &self.inner,
         };
@@ -171,9 +141,4 @@ impl<V, T: Drop, P: Fields<V>, M: Constructor<V, T>> Parser<T>
     fn meta(&self, alloc: Global) -> Result<Meta, AllocError> {
         adjacent_meta(&self.inner, alloc)
     }
-
-    ghost lawful = { λ p. group_lawful (part_of p.first)
-        (product_lawful (M.makes p.inner.make) (P.fast_lawful p.inner.fields)) };
-
-    ghost shows = { λ p. group_shows (product_shows (P.shows p.inner.fields)) };
 }

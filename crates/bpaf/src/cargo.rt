@@ -1,12 +1,6 @@
 //! A parser whose line may begin with cargo's own name of the subcommand.
-ghost use Rattle.std.specs.Prelude.{◌≡◌, IfOk, false, Option, refl};
-ghost use Rattle.bpaf_laws.specs.Product.{ProductOutcome, ProductDescribes};
-ghost use Rattle.bpaf_laws.specs.{Combinators.MapReads, Laws.IsNotMemory, Leaves.IsLiteral};
-ghost use Rattle.bpaf_doc.specs.Shape.{Any};
-ghost use Rattle.bpaf_laws.proofs.CombinatorLaws.{optional_lawful, hide_lawful};
-ghost use Rattle.bpaf_laws.proofs.ProductLaws.{both_lawful, product_lawful};
-ghost use Rattle.bpaf_laws.proofs.ShownNames.{both_show, last_shows, one_shape, product_shows};
-ghost use Rattle.bpaf_laws.proofs.LeafLaws.{any_lawful};
+ghost use Rattle.bpaf_grammar.specs.Grammar.{product};
+ghost use Rattle.std.specs.Prelude.{◌≡◌, IfOk, false, Option};
 
 use crate::leaves::literal::{ParseLiteral, literal};
 use crate::product::{Both, Fields, Last};
@@ -56,28 +50,10 @@ pub fn cargo_helper<P: Drop>(
 impl<T: Drop, P: Parser<T>> Parser<T> for CargoHelper<P> {
     ghost can_eval = { λ p. P.can_eval p.fields.rest.last };
 
-    ghost describes = { λ p. ProductDescribes
-        (⟦<Both<SkippedWord, Last<P>> as Fields<(Option<()>, T)>>⟧.describes p.fields) };
+    ghost grammar = { λ p. product (λ values v. v ≡ values.1)
+        (⟦<Both<SkippedWord, Last<P>> as Fields<(Option<()>, T)>>⟧.grammar p.fields) };
 
-    ghost shorts = { λ p. P.shorts p.fields.rest.last };
-
-    ghost reads = { λ p. MapReads (Option (Unit {0}) × T) T
-        (⟦<Both<SkippedWord, Last<P>> as Fields<(Option<()>, T)>>⟧.reads p.fields)
-        (λ values v. v ≡ values.1) };
-
-    ghost outcome = { λ p. ProductOutcome
-        (⟦<Both<SkippedWord, Last<P>> as Fields<(Option<()>, T)>>⟧.outcome p.fields)
-        (λ values v. v ≡ values.1) };
-
-    fn eval(&self, state: &mut State) -> Result<T, Error>
-        requires { P.can_eval self.now.fields.rest.last }
-        ensures outcome { ProductOutcome
-            (⟦<Both<SkippedWord, Last<P>> as Fields<(Option<()>, T)>>⟧.outcome self.now.fields)
-            (λ values v. v ≡ values.1) state.old result state.new }
-        ensures memory_is_never_caught { IsNotMemory result → ProductOutcome
-            (⟦<Both<SkippedWord, Last<P>> as Fields<(Option<()>, T)>>⟧.spared_outcome
-            self.now.fields) (λ values v. v ≡ values.1) state.old result state.new }
-    {
+    fn eval(&self, state: &mut State) -> Result<T, Error> {
         let values: Result<(Option<()>, T), Error> = self.fields.eval_fields(state);
         state.set_current(None);
         Ok(values?.1)
@@ -88,15 +64,4 @@ impl<T: Drop, P: Parser<T>> Parser<T> for CargoHelper<P> {
         self.fields.push_metas(alloc, &mut metas)?;
         Ok(Meta::And(metas))
     }
-
-    ghost lawful = { λ p.
-        let word = p.fields.first.inner.inner in
-        let law = any_lawful (Unit {0}) (IsLiteral word.text)
-        (Any word.metavar word.help word.anywhere) word.anywhere in
-        product_lawful (λ values v. v ≡ values.1)
-        (both_lawful (hide_lawful (optional_lawful law p.fields.first.inner.catch))
-        (P.lawful p.fields.rest.last)) };
-
-    ghost shows = { λ p. product_shows
-        (both_show (one_shape refl) (last_shows (P.shows p.fields.rest.last))) };
 }

@@ -1,10 +1,8 @@
 //! A choice of any number of parsers of one type.
-ghost use Rattle.std.specs.Prelude.{◌≡◌, ◌==◌, false, length, IfOk, All};
+ghost use Rattle.bpaf_grammar.specs.Grammar.{choice, choices_of, describes_of, only, outcome_of};
+ghost use Rattle.std.specs.Prelude.{◌≡◌, IfOk, All};
 ghost use Rattle.bpaf_doc.specs.Shape.{shape_of};
-ghost use Rattle.bpaf_laws.specs.Choice.{ChoiceDescribes, ChoiceOutcome, ChoicesOutcome, Nested};
-ghost use Rattle.bpaf_laws.specs.Choice.{ChoicesReads, ChoicesDescribes, LeftmostOfAll};
-ghost use Rattle.bpaf_laws.specs.Laws.{IsNotMemory, WithoutMemory, all_shorts};
-ghost use Rattle.bpaf_laws.proofs.{ChoiceLaws.choices_lawful, ShownNames.choices_show};
+ghost use Rattle.bpaf_laws.specs.Choice.{Nested};
 
 use bpaf_core::{Parser, Start, or_meta, or_parser};
 use bpaf_doc::{Meta, Text};
@@ -38,7 +36,7 @@ pub fn choice<P>(parsers: Vec<P>) -> ParseChoice<P>
 fn choose_from<T: Drop, P: Parser<T>>(first: &P, rest: &[P], state: &mut State) -> Result<T, Error>
     requires first { P.can_eval first.now }
     requires rest { All P.can_eval rest.now }
-    ensures { Nested ChoiceOutcome P.outcome (P.outcome first.now) rest.now
+    ensures { outcome_of (Nested choice P.grammar (P.grammar first.now) rest.now)
         state.old result state.new }
 {
     let start = Start::of(state);
@@ -52,7 +50,7 @@ fn choose_from<T: Drop, P: Parser<T>>(first: &P, rest: &[P], state: &mut State) 
 /// The answer of one of these parsers; without parsers a refusal.
 fn choose<T: Drop, P: Parser<T>>(parsers: &[P], state: &mut State) -> Result<T, Error>
     requires { All P.can_eval parsers.now }
-    ensures { ChoicesOutcome P.outcome parsers.now state.old result state.new }
+    ensures { outcome_of (choices_of P.grammar parsers.now) state.old result state.new }
 {
     match parsers {
         [] => {
@@ -69,7 +67,7 @@ fn meta_from<T, P: Parser<T>>(first: &P, rest: &[P], alloc: Global) -> Result<Me
     requires first { P.can_eval first.now }
     requires rest { All P.can_eval rest.now }
     ensures { IfOk result (λ meta.
-        Nested ChoiceDescribes P.describes (P.describes first.now) rest.now (shape_of meta)) }
+        describes_of (Nested choice P.grammar (P.grammar first.now) rest.now) (shape_of meta)) }
 {
     let mut shown = first.meta(alloc)?;
     for parser in rest {
@@ -85,24 +83,9 @@ fn meta_from<T, P: Parser<T>>(first: &P, rest: &[P], alloc: Global) -> Result<Me
 impl<T: Drop, P: Parser<T> + Drop> Parser<T> for ParseChoice<P> {
     ghost can_eval = { λ p. All P.can_eval p.parsers.items };
 
-    ghost describes = { λ p. ChoicesDescribes P.describes p.parsers.items };
+    ghost grammar = { λ p. only (choices_of P.grammar p.parsers.items) };
 
-    ghost shorts = { λ p. all_shorts P.shorts p.parsers.items };
-
-    ghost reads = { λ p. ChoicesReads P.reads p.parsers.items };
-
-    ghost outcome = { λ p. ChoicesOutcome P.outcome p.parsers.items };
-
-    fn eval(&self, state: &mut State) -> Result<T, Error>
-        requires { All P.can_eval self.now.parsers.items }
-        ensures outcome { ChoicesOutcome P.outcome self.now.parsers.items
-            state.old result state.new }
-        ensures leftmost_wins { LeftmostOfAll P.outcome self.now.parsers.items
-            state.old result state.new }
-        ensures memory_is_never_caught { IsNotMemory result →
-            ChoicesOutcome (λ p. WithoutMemory (P.outcome p)) self.now.parsers.items
-            state.old result state.new }
-    {
+    fn eval(&self, state: &mut State) -> Result<T, Error> {
         choose(self.parsers.as_slice(), state)
     }
 
@@ -113,8 +96,4 @@ impl<T: Drop, P: Parser<T> + Drop> Parser<T> for ParseChoice<P> {
             [first, rest @ ..] => meta_from(first, rest, alloc),
         }
     }
-
-    ghost lawful = { λ p. choices_lawful P.outcome P.reads p.parsers.items P.lawful };
-
-    ghost shows = { λ p. choices_show P.describes P.shorts P.shows p.parsers.items };
 }

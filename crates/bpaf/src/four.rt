@@ -1,6 +1,4 @@
 //! Four fields of a product at once, for records of many fields.
-ghost use Rattle.bpaf_laws.proofs.ProductLaws.{both_lawful, fail_fast_lawful, both_spares};
-ghost use Rattle.bpaf_laws.proofs.{ProductLaws.fail_fast_spares, ShownNames.both_show};
 
 use crate::product::{Both, Fields};
 use bpaf_core::Parser;
@@ -45,17 +43,8 @@ impl<
     ghost can_eval = { λ p.
         ⟦<FourFields<A, B, C, D, R> as Fields<FourValues<S, T, U, V, W>>>⟧.can_eval p.fields };
 
-    ghost describes = { λ p.
-        ⟦<FourFields<A, B, C, D, R> as Fields<FourValues<S, T, U, V, W>>>⟧.describes p.fields };
-
-    ghost shorts = { λ p.
-        ⟦<FourFields<A, B, C, D, R> as Fields<FourValues<S, T, U, V, W>>>⟧.shorts p.fields };
-
-    ghost reads = { λ p.
-        ⟦<FourFields<A, B, C, D, R> as Fields<FourValues<S, T, U, V, W>>>⟧.reads p.fields };
-
-    ghost outcome = { λ p.
-        ⟦<FourFields<A, B, C, D, R> as Fields<FourValues<S, T, U, V, W>>>⟧.outcome p.fields };
+    ghost grammar = { λ p.
+        ⟦<FourFields<A, B, C, D, R> as Fields<FourValues<S, T, U, V, W>>>⟧.grammar p.fields };
 
     fn eval_fields(&self, state: &mut State) -> Result<FourValues<S, T, U, V, W>, Error> {
         self.fields.eval_fields(state)
@@ -69,52 +58,7 @@ impl<
         self.fields.push_metas(alloc, metas)
     }
 
-    ghost fast_outcome = { λ p.
-        ⟦<FourFields<A, B, C, D, R> as Fields<FourValues<S, T, U, V, W>>>⟧.fast_outcome
-        p.fields };
-
     fn eval_fail_fast(&self, state: &mut State) -> Result<FourValues<S, T, U, V, W>, Error> {
         self.fields.eval_fail_fast(state)
     }
-
-    ghost lawful = { λ p. both_lawful (A.lawful p.fields.first)
-        (both_lawful (B.lawful p.fields.rest.first)
-        (both_lawful (C.lawful p.fields.rest.rest.first)
-        (both_lawful (D.lawful p.fields.rest.rest.rest.first)
-        (R.lawful p.fields.rest.rest.rest.rest)))) };
-
-    ghost fast_lawful = { λ p. fail_fast_lawful (A.lawful p.fields.first)
-        (both_lawful (B.lawful p.fields.rest.first)
-        (both_lawful (C.lawful p.fields.rest.rest.first)
-        (both_lawful (D.lawful p.fields.rest.rest.rest.first)
-        (R.lawful p.fields.rest.rest.rest.rest)))) };
-
-    ghost spared_outcome = { λ p.
-        ⟦<FourFields<A, B, C, D, R> as Fields<FourValues<S, T, U, V, W>>>⟧.spared_outcome
-        p.fields };
-
-    ghost fast_spared_outcome = { λ p.
-        ⟦<FourFields<A, B, C, D, R> as Fields<FourValues<S, T, U, V, W>>>⟧.fast_spared_outcome
-        p.fields };
-
-    ghost memory_is_never_caught = { λ p. both_spares (A.outcome p.fields.first) _ _
-        (both_spares (B.outcome p.fields.rest.first) _ _
-        (both_spares (C.outcome p.fields.rest.rest.first) _ _
-        (both_spares (D.outcome p.fields.rest.rest.rest.first)
-        (R.outcome p.fields.rest.rest.rest.rest) (R.spared_outcome p.fields.rest.rest.rest.rest)
-        (R.memory_is_never_caught p.fields.rest.rest.rest.rest)))) };
-
-    ghost fast_memory_is_never_caught = { λ p.
-        fail_fast_spares (A.outcome p.fields.first) _ _
-        (both_spares (B.outcome p.fields.rest.first) _ _
-        (both_spares (C.outcome p.fields.rest.rest.first) _ _
-        (both_spares (D.outcome p.fields.rest.rest.rest.first)
-        (R.outcome p.fields.rest.rest.rest.rest) (R.spared_outcome p.fields.rest.rest.rest.rest)
-        (R.memory_is_never_caught p.fields.rest.rest.rest.rest)))) };
-
-    ghost shows = { λ p. both_show (A.shows p.fields.first)
-        (both_show (B.shows p.fields.rest.first)
-        (both_show (C.shows p.fields.rest.rest.first)
-        (both_show (D.shows p.fields.rest.rest.rest.first)
-        (R.shows p.fields.rest.rest.rest.rest)))) };
 }

@@ -8,11 +8,10 @@
 //! choice. [`choice`] is one of any number of parsers of one type. [`cargo_helper`] is the product
 //! of a word that may stand in front and a parser.
 //!
-//! For the layers above: each type here proves the laws of `Parser` from the laws of its inner
-//! parsers alone, and its `outcome`, `reads`, `describes` and `shorts` are definitions over theirs
-//! (specs/Positional.antt here; specs/Leaves.antt, specs/Product.antt, specs/Combinators.antt and
-//! specs/Choice.antt of `bpaf_laws`). [`spellings_are_unique`] and [`lines_are_unique`] state that
-//! words are read in one way alone, and [`count_falls`] that what is newly taken was there.
+//! For the layers above: each type here says of what it is made (`grammar` of [`Parser`] and of
+//! [`Fields`]), and answers and shows what that tells. [`evaluate`] has all that is so of an answer
+//! of any parser as its clauses, and [`count_falls`] states that what is newly taken was there;
+//! [`spellings_are_unique`] and [`lines_are_unique`] state that words are read in one way alone.
 //!
 //! The modules [`parsers`], [`params`] and [`doc`] hand on the parser types, the leaves, and what
 //! texts are made of, as bpaf's modules of these names do.
@@ -38,6 +37,7 @@ pub use bpaf_core::{
     leftover, read_text, render, render_help, usage_of, value_or_refusal,
 };
 pub use bpaf_doc::{Doc, Help, Item, Meta, MetaInfo, Metavar, Piece, ShortLong, Style, Text};
+pub use bpaf_grammar::Position;
 pub use bpaf_line::{
     ArgsIter, Error, Mark, Message, MissingItem, MissingItems, ParseFailure, State, Steps,
 };
@@ -51,11 +51,11 @@ pub use bpaf_words::{
 pub use cargo::{CargoHelper, cargo_helper};
 pub use choices::{ParseChoice, choice};
 pub use four::{Four, FourFields, FourValues};
-pub use laws::count_falls;
+pub use laws::{count_falls, evaluate};
 pub use leaves::any::{ParseAny, any};
 pub use leaves::appname::appname;
 pub use leaves::literal::{ParseLiteral, literal};
-pub use leaves::positional::{ParsePositional, Position, positional};
+pub use leaves::positional::{ParsePositional, positional};
 pub use leaves::pure::{fail, pure, pure_with};
 pub use product::{
     Both, ByClosure, Constructor, Fields, Fields1, Fields2, Fields3, Fields4, Last, ParseCon,

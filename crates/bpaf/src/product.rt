@@ -1,16 +1,10 @@
 //! Products: the fields of a record, read one after another.
-ghost use Rattle.std.specs.Prelude.{◌≡◌, OnOk, map, List};
-ghost use Rattle.bpaf_doc.specs.Shape.{shape_of, Shape};
-ghost use Rattle.bpaf_laws.specs.Product.{AppendsShapes, LastDescribes, BothOutcome, BothReads};
-ghost use Rattle.bpaf_laws.specs.Product.{BothDescribes, FailFastOutcome, ProductOutcome};
-ghost use Rattle.bpaf_laws.specs.Laws.{FieldsShowNames, joined_shorts, Spares, WithoutMemory};
-ghost use Rattle.bpaf_laws.specs.{Reading.Outcome, Reading.Readings, Laws.IsNotMemory, Laws.Lawful};
-ghost use Rattle.bpaf_laws.specs.{Product.ProductDescribes, Combinators.MapReads};
+ghost use Rattle.bpaf_grammar.specs.Grammar.{FieldsGrammar, alone, both, product};
+ghost use Rattle.bpaf_grammar.specs.Grammar.{outcome_of, describes_of, fast_outcome_of};
+ghost use Rattle.std.specs.Prelude.{◌≡◌, OnOk, map};
+ghost use Rattle.bpaf_doc.specs.Shape.{shape_of};
+ghost use Rattle.bpaf_laws.specs.Product.{AppendsShapes};
 ghost use Rattle.bpaf.specs.Remembering.{IsErrorBefore, WithoutValue};
-ghost use Rattle.bpaf_words.specs.Line.{ShortNames};
-ghost use Rattle.bpaf_laws.proofs.ProductLaws.{both_lawful, fail_fast_lawful, product_lawful};
-ghost use Rattle.bpaf_laws.proofs.ProductLaws.{both_spares, fail_fast_spares};
-ghost use Rattle.bpaf_laws.proofs.ShownNames.{last_shows, both_show, product_shows};
 
 use bpaf_core::Parser;
 use bpaf_doc::Meta;
@@ -24,67 +18,32 @@ pub trait Fields<V>: Sized {
     /// Whether each field may be evaluated.
     ghost can_eval: { Self → Type 0 };
 
-    /// What the fields may show of themselves, in order.
-    ghost describes: { Self → List Shape → Type 0 };
-
-    /// The short names of the flags and arguments that they show.
-    ghost shorts: { Self → ShortNames };
-
-    /// Which values may be read off which places of a line.
-    ghost reads: { Self → Readings V };
-
-    /// What an evaluation of all fields may answer, and which situation it leaves.
-    ghost outcome: { Self → Outcome V };
-
-    /// The same where none of the fields wanted memory.
-    ghost spared_outcome: { Self → Outcome V };
+    /// Of which parsers they are.
+    ghost grammar: { Self → FieldsGrammar V };
 
     /// Evaluates every field in order, also after an error; the first failing field's error is the
     /// answer. Want of memory is the answer at once.
     fn eval_fields(&self, state: &mut State) -> Result<V, Error>
         requires { can_eval self.now }
-        ensures { outcome self.now state.old result state.new };
+        ensures { outcome_of (grammar self.now) state.old result state.new };
 
     /// The same, each value dropped where it was read: fields behind one that has failed are
     /// evaluated for want of memory alone.
     fn eval_without_value(&self, state: &mut State) -> Result<(), Error>
         requires { can_eval self.now }
-        ensures { WithoutValue (outcome self.now) state.old result state.new };
+        ensures { WithoutValue (outcome_of (grammar self.now)) state.old result state.new };
 
     /// Appends what each field shows; refused only for want of memory.
     fn push_metas(&self, alloc: Global, metas: &mut Vec<Meta>) -> Result<(), AllocError>
         requires { can_eval self.now }
-        ensures { OnOk result (AppendsShapes (describes self.now)
+        ensures { OnOk result (AppendsShapes (describes_of (grammar self.now))
             (map shape_of metas.old.items) (map shape_of metas.new.items)) };
-
-    /// What such an evaluation may answer where a failing first field is the end.
-    ghost fast_outcome: { Self → Outcome V };
-
-    /// The same where none of the fields wanted memory.
-    ghost fast_spared_outcome: { Self → Outcome V };
 
     /// Evaluates the first field, where it fails no other one, and else the others as ever: an
     /// adjacent group finds its first item so.
     fn eval_fail_fast(&self, state: &mut State) -> Result<V, Error>
         requires { can_eval self.now }
-        ensures { fast_outcome self.now state.old result state.new };
-
-    /// What each implementation keeps to.
-    ghost lawful: { (p : Self) → Lawful V (outcome p) (reads p) };
-
-    /// Whichever shapes they show, these are their short names.
-    ghost shows: { (p : Self) → FieldsShowNames (describes p) (shorts p) };
-
-    /// What it keeps to where a failing first field is the end.
-    ghost fast_lawful: { (p : Self) → Lawful V (fast_outcome p) (reads p) };
-
-    /// No field's want of memory is caught: an answer that isn't want of memory is one where none
-    /// of them wanted it.
-    ghost memory_is_never_caught: { (p : Self) → Spares (outcome p) (spared_outcome p) };
-
-    /// Nor is it where a failing first field is the end.
-    ghost fast_memory_is_never_caught: { (p : Self)
-        → Spares (fast_outcome p) (fast_spared_outcome p) };
+        ensures { fast_outcome_of (grammar self.now) state.old result state.new };
 }
 
 /// The last field of a product.
@@ -102,13 +61,7 @@ impl<A: Drop> Drop for Last<A> {
 impl<T: Drop, A: Parser<T>> Fields<T> for Last<A> {
     ghost can_eval = { λ p. A.can_eval p.last };
 
-    ghost describes = { λ p. LastDescribes (A.describes p.last) };
-
-    ghost shorts = { λ p. A.shorts p.last };
-
-    ghost reads = { λ p. A.reads p.last };
-
-    ghost outcome = { λ p. A.outcome p.last };
+    ghost grammar = { λ p. alone (A.grammar p.last) };
 
     fn eval_fields(&self, state: &mut State) -> Result<T, Error> {
         self.last.eval(state)
@@ -126,25 +79,9 @@ impl<T: Drop, A: Parser<T>> Fields<T> for Last<A> {
         Ok(())
     }
 
-    ghost fast_outcome = { λ p. A.outcome p.last };
-
     fn eval_fail_fast(&self, state: &mut State) -> Result<T, Error> {
         self.last.eval(state)
     }
-
-    ghost lawful = { λ p. A.lawful p.last };
-
-    ghost fast_lawful = { λ p. A.lawful p.last };
-
-    ghost spared_outcome = { λ p. WithoutMemory (A.outcome p.last) };
-
-    ghost fast_spared_outcome = { λ p. WithoutMemory (A.outcome p.last) };
-
-    ghost memory_is_never_caught = { λ p s t r answered spared. (answered, spared) };
-
-    ghost fast_memory_is_never_caught = { λ p s t r answered spared. (answered, spared) };
-
-    ghost shows = { λ p. last_shows (A.shows p.last) };
 }
 
 /// A field of a product, and the fields after it.
@@ -167,13 +104,7 @@ impl<A: Drop, R: Drop> Drop for Both<A, R> {
 impl<T: Drop, V, A: Parser<T>, R: Fields<V>> Fields<(T, V)> for Both<A, R> {
     ghost can_eval = { λ p. A.can_eval p.first × R.can_eval p.rest };
 
-    ghost describes = { λ p. BothDescribes (A.describes p.first) (R.describes p.rest) };
-
-    ghost shorts = { λ p. joined_shorts (A.shorts p.first) (R.shorts p.rest) };
-
-    ghost reads = { λ p. BothReads T V (A.reads p.first) (R.reads p.rest) };
-
-    ghost outcome = { λ p. BothOutcome (A.outcome p.first) (R.outcome p.rest) };
+    ghost grammar = { λ p. both (A.grammar p.first) (R.grammar p.rest) };
 
     fn eval_fields(&self, state: &mut State) -> Result<(T, V), Error> {
         match self.first.eval(state) {
@@ -198,8 +129,6 @@ impl<T: Drop, V, A: Parser<T>, R: Fields<V>> Fields<(T, V)> for Both<A, R> {
         self.rest.push_metas(alloc, metas)
     }
 
-    ghost fast_outcome = { λ p. FailFastOutcome (A.outcome p.first) (R.outcome p.rest) };
-
     fn eval_fail_fast(&self, state: &mut State) -> Result<(T, V), Error> {
         match self.first.eval(state) {
             Ok(first) => match self.rest.eval_fields(state) {
@@ -209,24 +138,6 @@ impl<T: Drop, V, A: Parser<T>, R: Fields<V>> Fields<(T, V)> for Both<A, R> {
             Err(error) => Err(error),
         }
     }
-
-    ghost lawful = { λ p. both_lawful (A.lawful p.first) (R.lawful p.rest) };
-
-    ghost fast_lawful = { λ p. fail_fast_lawful (A.lawful p.first) (R.lawful p.rest) };
-
-    ghost spared_outcome = { λ p.
-        BothOutcome (WithoutMemory (A.outcome p.first)) (R.spared_outcome p.rest) };
-
-    ghost fast_spared_outcome = { λ p.
-        FailFastOutcome (WithoutMemory (A.outcome p.first)) (R.spared_outcome p.rest) };
-
-    ghost memory_is_never_caught = { λ p. both_spares (A.outcome p.first) (R.outcome p.rest)
-        (R.spared_outcome p.rest) (R.memory_is_never_caught p.rest) };
-
-    ghost fast_memory_is_never_caught = { λ p. fail_fast_spares (A.outcome p.first)
-        (R.outcome p.rest) (R.spared_outcome p.rest) (R.memory_is_never_caught p.rest) };
-
-    ghost shows = { λ p. both_show (A.shows p.first) (R.shows p.rest) };
 }
 
 /// The field of a product of one, where the type of the product is written.
@@ -245,7 +156,7 @@ pub type Fields4<A, B, C, D> = Both<A, Fields3<B, C, D>>;
 /// unless it wanted memory, and the error is theirs where they want memory.
 fn error_before<V, R: Fields<V>>(error: Error, rest: &R, state: &mut State) -> Error
     requires { R.can_eval rest.now }
-    ensures { IsErrorBefore (R.outcome rest.now) error state.old result state.new }
+    ensures { IsErrorBefore (outcome_of (R.grammar rest.now)) error state.old result state.new }
 {
     if error.0.is_memory() {
         return error;
@@ -429,23 +340,9 @@ impl<V, P, F> ParseCon<V, P, ByClosure<F>> {
 impl<V, T, P: Fields<V>, M: Constructor<V, T>> Parser<T> for ParseCon<V, P, M> {
     ghost can_eval = { λ p. P.can_eval p.fields × M.can_make p.make };
 
-    ghost describes = { λ p. ProductDescribes (P.describes p.fields) };
+    ghost grammar = { λ p. product (M.makes p.make) (P.grammar p.fields) };
 
-    ghost shorts = { λ p. P.shorts p.fields };
-
-    ghost reads = { λ p. MapReads V T (P.reads p.fields) (M.makes p.make) };
-
-    ghost outcome = { λ p. ProductOutcome (P.outcome p.fields) (M.makes p.make) };
-
-    fn eval(&self, state: &mut State) -> Result<T, Error>
-        requires fields { P.can_eval self.now.fields }
-        requires callable { M.can_make self.now.make }
-        ensures outcome { ProductOutcome (P.outcome self.now.fields) (M.makes self.now.make)
-            state.old result state.new }
-        ensures memory_is_never_caught { IsNotMemory result →
-            ProductOutcome (P.spared_outcome self.now.fields) (M.makes self.now.make)
-            state.old result state.new }
-    {
+    fn eval(&self, state: &mut State) -> Result<T, Error> {
         let values = self.fields.eval_fields(state);
         state.set_current(None);
         Ok(self.make.make(values?))
@@ -456,8 +353,4 @@ impl<V, T, P: Fields<V>, M: Constructor<V, T>> Parser<T> for ParseCon<V, P, M> {
         self.fields.push_metas(alloc, &mut metas)?;
         Ok(Meta::And(metas))
     }
-
-    ghost lawful = { λ p. product_lawful (M.makes p.make) (P.lawful p.fields) };
-
-    ghost shows = { λ p. product_shows (P.shows p.fields) };
 }

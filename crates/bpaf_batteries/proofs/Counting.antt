@@ -1,24 +1,25 @@
 -- Counted keys: what two counts read are as many keys of each flag.
 use Rattle.std.proofs.Common.{◌≡◌, ℕ, ◌+◌, ◌<◌, ◌||◌, Bool, true, false, List, [], ◌∷◌, length}
-use Rattle.std.proofs.Common.{Result, Ok, Err, IfOk, None, refl, sym, ◌∙◌, subst, arith, ⊎_elim}
+use Rattle.std.proofs.Common.{Result, Ok, Err, IfOk, refl, sym, ◌∙◌, subst, arith, ⊎_elim}
 use Rattle.std.proofs.lemmas.Bool.{eq-eqb, eqb-true, false_from_ne_true, ne_eqb, or_cases}
 use Rattle.std.proofs.{lemmas.Option.slice_get_within, Common.true≢false}
+use Rattle.bpaf_grammar.specs.{Grammar.outcome_of, Grammar.reads_of, Laws.lawful_of}
+use Rattle.bpaf_batteries.specs.Verbosity.{count_grammar, counts_grammar}
+use Rattle.bpaf_laws.specs.Product.{BothReads}
 use Rattle.bpaf_text.specs.declared.params.ParseFlag.{ParseFlag}
 use Rattle.bpaf_base.specs.declared.arg.Arg.{Arg}
 use Rattle.bpaf_index.proofs.BitSets.{count_below-same, count_below-fewer, count_below-none}
 use Rattle.bpaf_line.specs.declared.error.Error.{Error}
-use Rattle.bpaf_line.specs.Situation.{Situation, Context, item_in, count_below, with_current}
+use Rattle.bpaf_line.specs.Situation.{Situation, Context, item_in, count_below}
 use Rattle.bpaf_laws.proofs.Keeping.{count_below-joined}
-use Rattle.bpaf_laws.proofs.ProductLaws.{both_spares, product_spares}
-use Rattle.bpaf_laws.specs.Laws.{newly, IsNotMemory}
+use Rattle.bpaf_laws.specs.Laws.{newly}
 use Rattle.bpaf_laws.specs.Reading.{Share, HasItem, IsPlace, Joins}
-use Rattle.bpaf_laws.specs.Combinators.{EachReads, ListReads, CountOutcome}
-use Rattle.bpaf_laws.specs.{Leaves.at_key, Leaves.nowhere, Product.BothOutcome}
+use Rattle.bpaf_laws.specs.Combinators.{EachReads, ListReads}
+use Rattle.bpaf_laws.specs.{Leaves.at_key, Leaves.nowhere}
 use Rattle.bpaf_batteries.proofs.Keys.{not_both}
-use Rattle.bpaf_batteries.specs.Verbosity.{CountReads, CountsSpared, CountsOutcome, CountsReads}
 use Rattle.bpaf_batteries.specs.Verbosity.{KeysAreCounted, fewer_of, keys_in, more_of}
-use Rattle.bpaf_batteries.specs.Keys.{is_flag_key, MustStand, KeyOutcome, KeyReads}
-use Rattle.bpaf_batteries.specs.{declared.pair.KeyCounts.KeyCounts, Verbosity.counts_lawful}
+use Rattle.bpaf_batteries.specs.Keys.{is_flag_key, MustStand, KeyReads}
+use Rattle.bpaf_batteries.specs.{declared.pair.KeyCounts.KeyCounts}
 
 -- a share of so many places, each with a key of a flag
 record AreKeys {T : Type 0} (flag : ParseFlag T) (context : Context) (share : Share) (n : ℕ)
@@ -87,7 +88,7 @@ module _ {T : Type 0} (clones : T → T → Type 0) (flag : ParseFlag T) (stands
   list_keys share xs none = grind (arith, each_key, more_keys, no_keys)
 
   -- a count is of as many keys
-  count_keys : (share : Share) (n : ℕ) → CountReads clones flag context share n
+  count_keys : (share : Share) (n : ℕ) → reads_of (count_grammar clones flag) context share n
       → AreKeys flag context share n
   count_keys share n read = grind (arith, list_keys)
 
@@ -101,7 +102,9 @@ counted_in flag context own rest share n joins keys others =
 
 -- two counts are as many keys of each flag
 counted : (clones : Unit {0} → Unit {0} → Type 0) (keys : KeyCounts) (context : Context)
-    (share : Share) (counts : ℕ × ℕ) → CountsReads clones keys context share counts
+    (share : Share) (counts : ℕ × ℕ)
+    → BothReads ℕ ℕ (reads_of (count_grammar clones (more_of keys)))
+    (reads_of (count_grammar clones (fewer_of keys))) context share counts
     → (counts.0 ≡ keys_in (more_of keys) context share)
     × (counts.1 ≡ keys_in (fewer_of keys) context share)
 counted clones keys context share counts read =
@@ -123,22 +126,12 @@ counted clones keys context share counts read =
     turned : (a b : Bool) → (a || b) ≡ (b || a)
     turned a b = grind arith
 
--- what two counts answer, after which no word is current
-pub counts_ran : (clones : Unit {0} → Unit {0} → Type 0) (keys : KeyCounts) (s m t : Situation)
-    → t ≡ with_current m None → (r : Result (ℕ × ℕ) Error)
-    → BothOutcome (CountOutcome (KeyOutcome clones (more_of keys)))
-    (CountOutcome (KeyOutcome clones (fewer_of keys))) s r m → CountsOutcome clones keys s r t
-counts_ran clones keys s m t unset r o = grind arith
-
--- two counts catch no want of memory of their keys
-pub counts_spared : (clones : Unit {0} → Unit {0} → Type 0) (keys : KeyCounts) (s t : Situation)
-    (r : Result (ℕ × ℕ) Error) → CountsOutcome clones keys s r t → IsNotMemory r
-    → CountsSpared clones keys s r t
-counts_spared clones keys s t r answered spared = grind (arith, both_spares, product_spares)
-
 -- the counts are those of the keys that were newly taken
 pub keys_counted : (clones : Unit {0} → Unit {0} → Type 0) (keys : KeyCounts) (s t : Situation)
-    (r : Result (ℕ × ℕ) Error) → CountsOutcome clones keys s r t → IfOk r (KeysAreCounted keys s t)
-keys_counted clones keys s t (Ok counts) o = counted clones keys s.context (newly s t) counts
-    ((counts_lawful clones keys).ok s t counts o).reading
+    (r : Result (ℕ × ℕ) Error) → outcome_of (counts_grammar clones keys) s r t
+    → IfOk r (KeysAreCounted keys s t)
+keys_counted clones keys s t (Ok counts) o =
+    let read = ((lawful_of (counts_grammar clones keys)).ok s t counts o).reading in
+    subst (KeysAreCounted keys s t) (sym read.made)
+    (counted clones keys s.context (newly s t) read.from read.read)
 keys_counted clones keys s t (Err e) o = tt

@@ -6,6 +6,8 @@ use Rattle.std.proofs.Common.{◌∙◌, ap, subst, arith, inl, inr, ⊎_elim, t
 use Rattle.std.proofs.lemmas.Bool.{and_parts, both_ways, cases_lt, false_from_ne_true}
 use Rattle.std.proofs.{lemmas.Bool.Decides.nat_tests, Common.IsOk}
 use Rattle.std.specs.Option.{option_map_or}
+use Rattle.bpaf_grammar.specs.Grammar.{outcome_of}
+use Rattle.bpaf_batteries.specs.Toggle.{toggle_grammar}
 use Rattle.bpaf_text.specs.declared.params.ParseFlag.{ParseFlag}
 use Rattle.bpaf_base.specs.declared.arg.Arg.{Arg}
 use Rattle.bpaf_line.proofs.Places.{open_not_taken, taken_here, taken_other, match_is_open}
@@ -22,7 +24,6 @@ use Rattle.bpaf_laws.specs.Combinators.{EndsIn, Turns, UntilStop, is_nil, TurnOu
 use Rattle.bpaf_laws.specs.{Laws.Lawful, Laws.newly, Reading.IsPlace, Leaves.IsLast}
 use Rattle.bpaf_batteries.proofs.Keys.{KeyEval, key_ran, not_both}
 use Rattle.bpaf_batteries.specs.Toggle.{EitherOutcome, GivesValue, LastToggleWins, RightmostGives}
-use Rattle.bpaf_batteries.specs.Toggle.{ToggleOutcome}
 use Rattle.bpaf_batteries.specs.Keys.{is_flag_key, is_either, AreKeysApart, KeyOutcome, KeyReads}
 
 -- of two places that are present the one before the other is the leftmost that is taken by only one
@@ -296,7 +297,7 @@ module _ {T : Type 0} (clones : T → T → Type 0) (one other : ParseFlag T) wh
 
 -- the last toggle wins
 pub toggle_wins : {T : Type 0} (clones : T → T → Type 0) {one other : ParseFlag T} (catches : Bool)
-    {s t : Situation} (v : Option T) → ToggleOutcome clones one other catches s (Ok v) t
+    {s t : Situation} (v : Option T) → outcome_of (toggle_grammar clones one other catches) s (Ok v) t
     → LastToggleWins clones one other s v
 toggle_wins clones {one} {other} catches v o keys =
     last_wins clones one other keys catches v o.1 o.2

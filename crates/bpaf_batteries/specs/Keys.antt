@@ -6,20 +6,21 @@ use Rattle.bpaf_doc.specs.Print.{text_pieces}
 use Rattle.bpaf_text.specs.Named.{key_named, with_help}
 use Rattle.bpaf_text.specs.declared.params.ParseFlag.{ParseFlag}
 use Rattle.bpaf_base.specs.{declared.arg.Arg.Arg, Items.is_key_of}
-use Rattle.bpaf_laws.specs.{Leaves.FlagOutcome, Leaves.FlagReads, Reading.Outcome, Reading.Readings}
+use Rattle.bpaf_laws.specs.{Reading.Outcome, Reading.Readings}
+use Rattle.bpaf_grammar.specs.Grammar.{Grammar, flag, outcome_of, reads_of}
 
 -- an item is a key of a flag
 abbrev pub is_flag_key : {T : Type 0} → ParseFlag T → Arg → Bool
-is_flag_key flag item = is_key_of flag.named.names item
+is_flag_key key item = is_key_of key.named.names item
 
 -- an item is a key of one of two flags
 abbrev pub is_either : {T : Type 0} → ParseFlag T → ParseFlag T → Arg → Bool
 is_either one other item = is_flag_key one item || is_flag_key other item
 
 -- a key of a flag must stand on the line: no absent value, and no names in the environment
-pub record MustStand {T : Type 0} (flag : ParseFlag T) : Type 0 where
-  pub required : flag.absent ≡ None
-  pub on_the_line : flag.named.envs ≡ []
+pub record MustStand {T : Type 0} (key : ParseFlag T) : Type 0 where
+  pub required : key.absent ≡ None
+  pub on_the_line : key.named.envs ≡ []
 
 -- two such flags, and no item is a key of both
 pub record AreKeysApart {T : Type 0} (one other : ParseFlag T) : Type 0 where
@@ -27,13 +28,17 @@ pub record AreKeysApart {T : Type 0} (one other : ParseFlag T) : Type 0 where
   pub other_stands : MustStand other
   pub apart : (item : Arg) → (is_flag_key one item && is_flag_key other item) ≡ false
 
--- what a flag answers
+-- a key
+abbrev pub key_grammar : {T : Type 0} → (T → T → Type 0) → ParseFlag T → Grammar T
+key_grammar clones key = flag clones key.named key.present key.absent
+
+-- what it answers
 abbrev pub KeyOutcome : {T : Type 0} → (T → T → Type 0) → ParseFlag T → Outcome T
-KeyOutcome clones flag = FlagOutcome clones flag.named flag.present flag.absent
+KeyOutcome clones key = outcome_of (key_grammar clones key)
 
 -- what it reads
 abbrev pub KeyReads : {T : Type 0} → (T → T → Type 0) → ParseFlag T → Readings T
-KeyReads {T} clones flag = FlagReads T clones flag.named flag.present flag.absent
+KeyReads clones key = reads_of (key_grammar clones key)
 
 -- a flag that must stand on the line, of one short and one long name, with this help
 abbrev pub counted_key : ℕ → List ℕ → List ℕ → ParseFlag (Unit {0})

@@ -1,10 +1,10 @@
 //! How often the keys for more and for less are given.
-ghost use Rattle.std.specs.Prelude.{◌≡◌, ◌≤◌, length, ◌∷◌, [], IfOk, IsTrue, None};
+ghost use Rattle.bpaf_grammar.specs.Grammar.{outcome_of};
+ghost use Rattle.bpaf_batteries.specs.Verbosity.{counts_grammar};
+ghost use Rattle.std.specs.Prelude.{◌≡◌, ◌≤◌, length, IfOk, None};
 ghost use Rattle.bpaf_batteries.specs.Keys.{counted_key};
-ghost use Rattle.bpaf_batteries.specs.Verbosity.{AreVerboseAndQuiet, CountsDescribe, CountsOutcome};
-ghost use Rattle.bpaf_batteries.specs.Verbosity.{CountsReads, CountsSpared, KeysAreCounted};
-ghost use Rattle.bpaf_batteries.specs.Verbosity.{counted_shorts, counts_lawful, counts_show};
-ghost use Rattle.bpaf_laws.specs.Laws.{IsNotMemory};
+ghost use Rattle.bpaf_batteries.specs.Verbosity.{AreVerboseAndQuiet};
+ghost use Rattle.bpaf_batteries.specs.Verbosity.{KeysAreCounted};
 
 use crate::pair::KeyCounts;
 use bpaf::parsers::{ParseCount, ParseFlag};
@@ -44,19 +44,12 @@ pub(crate) fn verbose_and_quiet(alloc: Global) -> KeyCounts
 impl Parser<(usize, usize)> for KeyCounts {
     ghost can_eval = { λ p. Unit {0} };
 
-    ghost describes = { CountsDescribe };
-
-    ghost shorts = { counted_shorts };
-
-    ghost reads = { CountsReads ⟦<() as Clone>⟧.is_clone };
-
-    ghost outcome = { CountsOutcome ⟦<() as Clone>⟧.is_clone };
+    ghost grammar = { λ p. counts_grammar ⟦<() as Clone>⟧.is_clone p };
 
     fn eval(&self, state: &mut State) -> Result<(usize, usize), Error>
-        ensures outcome { CountsOutcome ⟦<() as Clone>⟧.is_clone self.now state.old result state.new }
+        ensures outcome { outcome_of (counts_grammar ⟦<() as Clone>⟧.is_clone self.now)
+            state.old result state.new }
         ensures keys_are_counted { IfOk result (KeysAreCounted self.now state.old state.new) }
-        ensures memory_is_never_caught { IsNotMemory result → CountsSpared
-            ⟦<() as Clone>⟧.is_clone self.now state.old result state.new }
     {
         let counts = self.fields.eval_fields(state);
         state.set_current(None);
@@ -68,8 +61,4 @@ impl Parser<(usize, usize)> for KeyCounts {
         self.fields.push_metas(alloc, &mut metas)?;
         Ok(Meta::And(metas))
     }
-
-    ghost lawful = { counts_lawful ⟦<() as Clone>⟧.is_clone };
-
-    ghost shows = { counts_show };
 }

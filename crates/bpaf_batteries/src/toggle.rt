@@ -1,9 +1,9 @@
 //! Two flags of which the last one given counts.
-ghost use Rattle.std.specs.Prelude.{◌≡◌, None, false, IfOk, ◌++◌};
-ghost use Rattle.bpaf_batteries.specs.Toggle.{LastToggleWins, ToggleDescribes, ToggleOutcome};
-ghost use Rattle.bpaf_batteries.specs.Toggle.{ToggleReads, ToggleSpared, toggle_lawful};
-ghost use Rattle.bpaf_batteries.specs.Toggle.{toggle_shows};
-ghost use Rattle.bpaf_laws.specs.{Combinators.EndsIn, Laws.IsNotMemory, Laws.of_flags};
+ghost use Rattle.bpaf_grammar.specs.Grammar.{outcome_of};
+ghost use Rattle.bpaf_batteries.specs.Toggle.{toggle_grammar};
+ghost use Rattle.std.specs.Prelude.{◌≡◌, None, false, IfOk};
+ghost use Rattle.bpaf_batteries.specs.Toggle.{LastToggleWins};
+ghost use Rattle.bpaf_laws.specs.{Combinators.EndsIn};
 
 use bpaf::parsers::{ParseFlag, ParseMany, ParseOrElse};
 use bpaf::{Error, Meta, NamedArg, Parser, State};
@@ -44,24 +44,14 @@ pub fn toggle_flag<T: Clone + Drop>(a: NamedArg, val_a: T, b: NamedArg, val_b: T
 impl<T: Clone + Drop> Parser<Option<T>> for ToggleFlag<T> {
     ghost can_eval = { λ p. Unit {0} };
 
-    ghost describes = { λ p. ToggleDescribes p.toggles.inner.this p.toggles.inner.that };
-
-    ghost shorts = { λ p. of_flags (p.toggles.inner.this.named.names.shorts
-        ++ p.toggles.inner.that.named.names.shorts) };
-
-    ghost reads = { λ p. ToggleReads T.is_clone p.toggles.inner.this p.toggles.inner.that };
-
-    ghost outcome = { λ p.
-        ToggleOutcome T.is_clone p.toggles.inner.this p.toggles.inner.that p.toggles.catch };
+    ghost grammar = { λ p. toggle_grammar T.is_clone p.toggles.inner.this
+        p.toggles.inner.that p.toggles.catch };
 
     fn eval(&self, state: &mut State) -> Result<Option<T>, Error>
-        ensures outcome { ToggleOutcome T.is_clone self.now.toggles.inner.this
-            self.now.toggles.inner.that self.now.toggles.catch state.old result state.new }
+        ensures outcome { outcome_of (toggle_grammar T.is_clone self.now.toggles.inner.this
+            self.now.toggles.inner.that self.now.toggles.catch) state.old result state.new }
         ensures last_toggle_wins { IfOk result (LastToggleWins T.is_clone
             self.now.toggles.inner.this self.now.toggles.inner.that state.old) }
-        ensures memory_is_never_caught { IsNotMemory result → ToggleSpared T.is_clone
-            self.now.toggles.inner.this self.now.toggles.inner.that self.now.toggles.catch
-            state.old result state.new }
     {
         match self.toggles.eval(state) {
             Ok(values) => Ok(last_of(values)),
@@ -72,11 +62,6 @@ impl<T: Clone + Drop> Parser<Option<T>> for ToggleFlag<T> {
     fn meta(&self, alloc: Global) -> Result<Meta, AllocError> {
         self.toggles.meta(alloc)
     }
-
-    ghost lawful = { λ p.
-        toggle_lawful T.is_clone p.toggles.inner.this p.toggles.inner.that p.toggles.catch };
-
-    ghost shows = { λ p. toggle_shows p.toggles.inner.this p.toggles.inner.that };
 }
 
 /// The last of some values.

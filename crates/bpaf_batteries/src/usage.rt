@@ -1,6 +1,6 @@
 //! The usage text of a parser, without a run.
 ghost use Rattle.std.specs.Prelude.{IfOk, option_map, string_bytes};
-ghost use Rattle.bpaf_core.specs.Run.{known_names, RunsWords};
+ghost use Rattle.bpaf_grammar.specs.Words.{Answers};
 ghost use Rattle.bpaf_batteries.specs.Usage.{TellsText, TellsUsage, help_asked};
 
 use bpaf::{Args, OptionParser, ParseFailure, Parser};
@@ -18,8 +18,7 @@ pub fn get_usage<T: Drop, P: Parser<T> + Drop>(
     options: OptionParser<T, P>,
 ) -> Result<Option<String>, AllocError>
     requires { P.can_eval options.inner }
-    ensures { TellsUsage (RunsWords T (P.outcome options.inner) (P.describes options.inner)
-        options.info (known_names options.info (P.shorts options.inner)) help_asked) result }
+    ensures { TellsUsage (Answers (P.grammar options.inner) options.info help_asked) result }
 {
     let words = ["--help"];
     match options.run_once(Args::from(&words)) {

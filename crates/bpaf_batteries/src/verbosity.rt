@@ -1,12 +1,11 @@
 //! Levels of verbosity, as a number or as a member of a list.
-ghost use Rattle.std.specs.Prelude.{◌≡◌, ◌<◌, ◌≤◌, ◌≤ℤ◌, ◌-ℤ◌, IfOk, length, pos, ℕ, ℤ};
-ghost use Rattle.bpaf_batteries.specs.Verbosity.{AreVerboseAndQuiet, CountsDescribe, CountsOutcome};
-ghost use Rattle.bpaf_batteries.specs.Verbosity.{CountsReads, CountsSpared, PickOutcome, PicksItem};
-ghost use Rattle.bpaf_batteries.specs.Verbosity.{VerbosityCounts, VerbosityPicks, counted_shorts};
-ghost use Rattle.bpaf_batteries.specs.Verbosity.{counts_lawful, counts_show, pick_lawful};
+ghost use Rattle.bpaf_grammar.specs.Grammar.{closed, made, mapped, outcome_of};
+ghost use Rattle.bpaf_batteries.specs.Verbosity.{counts_grammar};
+ghost use Rattle.std.specs.Prelude.{◌≡◌, ◌<◌, ◌≤◌, ◌≤ℤ◌, ◌-ℤ◌, IfOk, length, pos, ℤ};
+ghost use Rattle.bpaf_batteries.specs.Verbosity.{AreVerboseAndQuiet};
+ghost use Rattle.bpaf_batteries.specs.Verbosity.{PicksItem};
+ghost use Rattle.bpaf_batteries.specs.Verbosity.{VerbosityCounts, VerbosityPicks};
 ghost use Rattle.bpaf_batteries.specs.Keys.{IsLevelOf};
-ghost use Rattle.bpaf_laws.specs.{Combinators.MapOutcome, Combinators.MapReads, Laws.IsNotMemory};
-ghost use Rattle.bpaf_laws.proofs.CombinatorLaws.{map_lawful};
 
 use crate::counts::verbose_and_quiet;
 use crate::pair::KeyCounts;
@@ -70,24 +69,15 @@ fn level(offset: isize, min: isize, max: isize, more: usize, fewer: usize) -> is
 impl Parser<isize> for VerboseQuiet {
     ghost can_eval = { λ p. Unit {0} };
 
-    ghost describes = { λ p. CountsDescribe p.counts };
-
-    ghost shorts = { λ p. counted_shorts p.counts };
-
-    ghost reads = { λ p. MapReads (ℕ × ℕ) ℤ (CountsReads ⟦<() as Clone>⟧.is_clone p.counts)
-        (IsLevelOf p.offset p.min p.max) };
-
-    ghost outcome = { λ p. MapOutcome (CountsOutcome ⟦<() as Clone>⟧.is_clone p.counts)
-        (IsLevelOf p.offset p.min p.max) };
+    ghost grammar = { λ p.
+        closed (mapped (IsLevelOf p.offset p.min p.max)) (counts_grammar ⟦<() as Clone>⟧.is_clone p.counts) };
 
     fn eval(&self, state: &mut State) -> Result<isize, Error>
-        ensures outcome { MapOutcome (CountsOutcome ⟦<() as Clone>⟧.is_clone self.now.counts)
-            (IsLevelOf self.now.offset self.now.min self.now.max) state.old result state.new }
+        ensures outcome { outcome_of (closed (mapped (IsLevelOf self.now.offset self.now.min
+            self.now.max)) (counts_grammar ⟦<() as Clone>⟧.is_clone self.now.counts))
+            state.old result state.new }
         ensures verbosity_counts { IfOk result (VerbosityCounts self.now.counts
             self.now.offset self.now.min self.now.max state.old state.new) }
-        ensures memory_is_never_caught { IsNotMemory result → MapOutcome (CountsSpared
-            ⟦<() as Clone>⟧.is_clone self.now.counts)
-            (IsLevelOf self.now.offset self.now.min self.now.max) state.old result state.new }
     {
         match self.counts.eval(state) {
             Ok((more, fewer)) => Ok(level(self.offset, self.min, self.max, more, fewer)),
@@ -98,11 +88,6 @@ impl Parser<isize> for VerboseQuiet {
     fn meta(&self, alloc: Global) -> Result<Meta, AllocError> {
         self.counts.meta(alloc)
     }
-
-    ghost lawful = { λ p. map_lawful (counts_lawful ⟦<() as Clone>⟧.is_clone p.counts)
-        (IsLevelOf p.offset p.min p.max) };
-
-    ghost shows = { λ p. counts_show p.counts };
 }
 
 /// A level of verbosity as the item of an array (bpaf's `verbose_by_slice` answers an
@@ -175,24 +160,15 @@ fn item_at<T: Clone + Drop>(
 impl<T: Clone + Drop> Parser<T> for VerboseSlice<T> {
     ghost can_eval = { λ p. Unit {0} };
 
-    ghost describes = { λ p. CountsDescribe p.counts };
-
-    ghost shorts = { λ p. counted_shorts p.counts };
-
-    ghost reads = { λ p. MapReads (ℕ × ℕ) T (CountsReads ⟦<() as Clone>⟧.is_clone p.counts)
-        (PicksItem T.is_clone p.offset p.items.items) };
-
-    ghost outcome = { λ p. PickOutcome (CountsOutcome ⟦<() as Clone>⟧.is_clone p.counts)
-        (PicksItem T.is_clone p.offset p.items.items) };
+    ghost grammar = { λ p. made (PicksItem T.is_clone p.offset p.items.items)
+        (counts_grammar ⟦<() as Clone>⟧.is_clone p.counts) };
 
     fn eval(&self, state: &mut State) -> Result<T, Error>
-        ensures outcome { PickOutcome (CountsOutcome ⟦<() as Clone>⟧.is_clone self.now.counts)
-            (PicksItem T.is_clone self.now.offset self.now.items.items) state.old result state.new }
+        ensures outcome { outcome_of (made (PicksItem T.is_clone self.now.offset
+            self.now.items.items) (counts_grammar ⟦<() as Clone>⟧.is_clone self.now.counts))
+            state.old result state.new }
         ensures verbosity_counts { IfOk result (VerbosityPicks self.now.counts T.is_clone
             self.now.offset self.now.items.items state.old state.new) }
-        ensures memory_is_never_caught { IsNotMemory result → PickOutcome (CountsSpared
-            ⟦<() as Clone>⟧.is_clone self.now.counts)
-            (PicksItem T.is_clone self.now.offset self.now.items.items) state.old result state.new }
     {
         match self.counts.eval(state) {
             Ok((more, fewer)) => Ok(item_at(&self.items, self.offset, more, fewer)?),
@@ -203,9 +179,4 @@ impl<T: Clone + Drop> Parser<T> for VerboseSlice<T> {
     fn meta(&self, alloc: Global) -> Result<Meta, AllocError> {
         self.counts.meta(alloc)
     }
-
-    ghost lawful = { λ p. pick_lawful (counts_lawful ⟦<() as Clone>⟧.is_clone p.counts)
-        (PicksItem T.is_clone p.offset p.items.items) };
-
-    ghost shows = { λ p. counts_show p.counts };
 }

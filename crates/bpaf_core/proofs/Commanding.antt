@@ -1,31 +1,25 @@
 -- How the answers of a command and of the attempts of an adjacent one are put together, what they
 -- leave, and that a failure which a command hands on is that of its own run inside.
 use Rattle.std.proofs.Common.{◌≡◌, ℕ, Bool, true, false, Result, Ok, Err, ⊎_elim, sym, true≢false}
-use Rattle.std.proofs.Common.{◌≤◌, ◌+◌, length, refl, ap, subst, ◌∙◌}
-use Rattle.std.specs.Result.{IfErr, IsErr, IsErrAnd}
-use Rattle.bpaf_doc.specs.Shape.{Part, Shape}
+use Rattle.std.proofs.Common.{◌≤◌, length, refl, ap, ◌∙◌}
+use Rattle.std.specs.Result.{IsErr, IsErrAnd}
+use Rattle.bpaf_doc.specs.Shape.{Part}
 use Rattle.bpaf_line.specs.declared.failure.ParseFailure.{ParseFailure}
 use Rattle.bpaf_line.specs.Situation.{Situation, IsStretchFrom, with_scope}
 use Rattle.bpaf_line.specs.Marks.{Fits, KeepsMarks, redone, undone, Changes}
 use Rattle.bpaf_line.specs.{declared.error.Error.Error, declared.mark.Mark.Mark, Messages.is_memory}
-use Rattle.bpaf_line.specs.declared.error.Message.{Message}
-use Rattle.bpaf_keys.specs.Info.{RunInfo}
-use Rattle.bpaf_laws.specs.Adjacent.{IsFirstLeft, IsStretch}
-use Rattle.bpaf_laws.specs.Command.{Called, IsOpenedAt, LeavesNothing, inside, opening_words}
-use Rattle.bpaf_laws.specs.{Reading.Outcome, Reading.Readings, Laws.Lawful, Laws.newly}
-use Rattle.bpaf_core.specs.Command.{ended, missing, no_memory, value, EitherCommandOutcome, Enters}
-use Rattle.bpaf_core.specs.Command.{RunsInside, StaysOutside, counted, failed, no_path, unnamed}
-use Rattle.bpaf_core.specs.Command.{Attempts, GivesBack, IsTold, Retry, first_fails, second_fails}
-use Rattle.bpaf_core.specs.Command.{wants_memory, CommandOutcome, nothing_left, IsMissingPart}
-use Rattle.bpaf_core.specs.{Ending.EndsRun, Refusals.FailsInside, Refusals.NamesInside}
-use Rattle.bpaf_core.specs.Refusals.{StartsInside}
-use Rattle.bpaf_core.proofs.Running.{run_is_named}
-use Rattle.bpaf_core.specs.AdjacentLaws.{attempts_counted, either_lawful}
-use Rattle.bpaf_core.specs.CommandLaws.{runs_keeps, command_lawful, run_empty}
-use Rattle.bpaf_core.specs.{Ending.Ending, Ending.LawfulEnding, Run.Runs}
+use Rattle.bpaf_laws.specs.Adjacent.{IsFirstLeft}
+use Rattle.bpaf_laws.specs.Command.{Called, inside}
+use Rattle.bpaf_laws.specs.{Reading.Outcome, Reading.Readings, Laws.Lawful}
+use Rattle.bpaf_grammar.specs.Command.{ended, missing, no_memory, value, EitherCommandOutcome, Enters}
+use Rattle.bpaf_grammar.specs.Command.{RunsInside, StaysOutside, counted, failed, no_path, unnamed}
+use Rattle.bpaf_grammar.specs.Command.{Attempts, GivesBack, IsTold, Retry, first_fails, second_fails}
+use Rattle.bpaf_grammar.specs.Command.{wants_memory}
+use Rattle.bpaf_grammar.specs.AdjacentLaws.{attempts_counted}
+use Rattle.bpaf_grammar.specs.CommandLaws.{runs_keeps}
+use Rattle.bpaf_grammar.specs.{Ending.Ending, Ending.LawfulEnding, Run.Runs}
 use Rattle.bpaf_parts.specs.Failures.{end_message}
 use Rattle.bpaf_line.proofs.Marks.{keeps_marks_refl, keeps_marks_scope, keeps_marks_trans}
-use Rattle.bpaf_laws.proofs.CommandLaws.{leaves_nothing}
 use Rattle.bpaf_line.specs.declared.failure.ParseFailure.TheVariants as failure
 
 -- a plain command runs once inside
@@ -104,29 +98,6 @@ module _ {T : Type 0} {inner : Outcome T} {ending : Ending} {reads : Readings T}
       let count = attempts_counted s from v u attempts in
       rw (runs_keeps law ends (with_scope s from count.end) (Ok v) u count.ran).context inside
 
-  module _ (called : Called) (shows : Part → Type 0) where
-    -- a value of a command that isn't adjacent leaves nothing in the scope that this was given
-    pub plain_leaves_nothing : (adjacent : Bool) (s t : Situation) (v : T)
-        → EitherCommandOutcome adjacent T inner ending called shows s (Ok v) t → adjacent ≡ false
-        → LeavesNothing s t
-    plain_leaves_nothing false s t v outcome is = by_run outcome
-      where
-        by_run : {t : Situation} {v : T} → CommandOutcome T inner ending called shows s (Ok v) t
-            → LeavesNothing s t
-        by_run (value w p left at run) =
-            leaves_nothing s left
-            ((command_lawful law ends called shows).ok s left w (value w p left at run)).closed
-            (run_empty (inside called s p) w left run)
-    plain_leaves_nothing true s t v outcome is = absurd (true≢false is)
-
-    -- a value of an adjacent command newly took one stretch
-    pub takes_one_stretch : (adjacent : Bool) (s t : Situation) (v : T)
-        → EitherCommandOutcome adjacent T inner ending called shows s (Ok v) t → adjacent ≡ true
-        → IsStretch (newly s t)
-    takes_one_stretch true s t v outcome is =
-        ((either_lawful law ends called shows true).ok s t v outcome).reading.stretch
-    takes_one_stretch false s t v outcome is = absurd (true≢false (sym is))
-
 module _ {T : Type 0} {inner : Outcome T} {ending : Ending} {s : Situation} {from end : ℕ}
     {f : ParseFailure} {t : Situation} where
   -- memory is wanted, and all is as before the first attempt
@@ -159,68 +130,3 @@ pub then_retried : {T : Type 0} {inner : Outcome T} {ending : Ending} {s : Situa
     → Retry T inner ending o from end f t r u → Attempts T inner ending s from r u
 then_retried {end = end} {f} {t} {r = r} {u} run ran back retry =
     first_fails f end t r u run ran (rw back at retry)
-
-module _ {T : Type 0} {inner : Outcome T} {reads : Readings T} (law : Lawful T inner reads)
-    (describes : Shape → Type 0) (info : RunInfo) (called : Called) (s : Situation) where
-  -- a message says so of the failure that it is
-  abbrev Names : Bool → Message → Type 0
-  Names adjacent = NamesInside adjacent called inner describes info s
-
-  -- so does the end of a run inside
-  end_names : (adjacent : Bool) (p : ℕ) → IsOpenedAt (opening_words called) s p
-      → (start : Situation) → StartsInside adjacent (inside called s p) start → (f : ParseFailure)
-      → (t : Situation) → Runs T inner (EndsRun describes info) start (Err f) t
-      → Names adjacent (end_message f)
-  end_names adjacent p at start starts f t run =
-      let named = run_is_named inner describes info law start f t run in
-      told f (record {
-        place = p;
-        opened = at;
-        start = start;
-        starts = starts;
-        name = named.0;
-        fails = named.1;
-      })
-    where
-      told : (f : ParseFailure) → FailsInside adjacent called inner describes info s f
-          → Names adjacent (end_message f)
-      told failure.Memory fails = tt
-      told (failure.Stdout doc full) fails = fails
-      told (failure.Stderr doc) fails = fails
-
-  -- of attempts the first one's failure counts
-  attempts_name : (p : ℕ) → IsOpenedAt (opening_words called) s p → (f : ParseFailure)
-      → (u : Situation)
-      → Attempts T inner (EndsRun describes info) (inside called s p) (p + 1) (Err f) u
-      → Names true (end_message f)
-  attempts_name p at f u (first_fails g end t r w run ran (nothing_left told taken)) =
-      end_names true p at (with_scope (inside called s p) (p + 1) end) (end, run, refl) g t ran
-  attempts_name p at f u (first_fails g end t r w run ran (second_fails h stop x told left again other)) =
-      end_names true p at (with_scope (inside called s p) (p + 1) end) (end, run, refl) g t ran
-  attempts_name p at f u (first_fails g end t r w run ran wants_memory) = tt
-
-  module _ (shows : Part → Type 0) where
-    -- that its part is missing is the answer of no run inside
-    missing_names : (adjacent : Bool) (m : Message) → IsMissingPart shows s m → Names adjacent m
-    missing_names adjacent m lacks = ⊎_elim (λ want. subst (Names adjacent) (sym want) tt)
-        (λ part. subst (Names adjacent) (sym part.3) tt) lacks
-
-    -- what a command hands on is a failure of its own run inside
-    names_inside : (adjacent : Bool) (t : Situation) (e : Error)
-        → EitherCommandOutcome adjacent T inner (EndsRun describes info) called shows s (Err e) t
-        → Names adjacent e.0
-    names_inside false t e (ended f told p left at run is) = subst (Names false) (sym is)
-        (end_names false p at (inside called s p) refl f left run)
-    names_inside false t e (missing told none is) = missing_names false e.0 is
-    names_inside false t e (no_memory told p at is) = subst (Names false) (sym is) tt
-    names_inside true t e (failed f told p u at runs is) = subst (Names true) (sym is)
-        (attempts_name p at f u runs)
-    names_inside true t e (unnamed told none is) = missing_names true e.0 is
-    names_inside true t e (no_path told p at is) = subst (Names true) (sym is) tt
-
-    -- so does each answer that hands it on
-    pub answer_names_inside : (adjacent : Bool) (r : Result T Error) (t : Situation)
-        → EitherCommandOutcome adjacent T inner (EndsRun describes info) called shows s r t
-        → IfErr r (λ e. Names adjacent e.0)
-    answer_names_inside adjacent (Ok v) t o = tt
-    answer_names_inside adjacent (Err e) t o = names_inside adjacent t e o

@@ -1,4 +1,3 @@
 pub use Rattle.bpaf_parts.proofs.Branching
 pub mod Running
 pub mod Commanding
-pub mod Sparing

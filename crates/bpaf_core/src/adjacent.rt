@@ -1,8 +1,9 @@
 //! Runs over the items behind a place without a gap: the attempts of an adjacent command.
+ghost use Rattle.bpaf_grammar.specs.Grammar.{outcome_of, describes_of};
 ghost use Rattle.std.specs.Prelude.{◌≡◌, ◌<◌, ◌≤◌, length};
-ghost use Rattle.bpaf_line.specs.Marks.{CanRedo, Fits, KeepsMarks, redone, undone};
-ghost use Rattle.bpaf_core.specs.Ending.{EndsRun};
-ghost use Rattle.bpaf_core.specs.Command.{AdjacentRuns, Attempt, Attempts, Retry};
+ghost use Rattle.bpaf_line.specs.Marks.{Fits, KeepsMarks, undone};
+ghost use Rattle.bpaf_grammar.specs.Ending.{EndsRun};
+ghost use Rattle.bpaf_grammar.specs.Command.{AdjacentRuns, Attempt, Attempts, Retry};
 
 use crate::parser::Parser;
 use crate::run::Run;
@@ -15,8 +16,8 @@ impl<T: Drop, P: Parser<T>> Run<'_, T, P> {
         requires can { P.can_eval self.now.inner.now }
         requires ordered { from ≤ end }
         requires inside { end ≤ length state.old.context.line }
-        ensures runs { Attempt T (P.outcome self.now.inner.now)
-            (EndsRun (P.describes self.now.inner.now) self.now.info.now)
+        ensures runs { Attempt T (outcome_of (P.grammar self.now.inner.now))
+            (EndsRun (describes_of (P.grammar self.now.inner.now)) self.now.info.now)
             state.old from end result state.new }
         ensures context { state.new.context ≡ state.old.context }
         ensures marks { KeepsMarks state.old state.new }
@@ -39,8 +40,8 @@ impl<T: Drop, P: Parser<T>> Run<'_, T, P> {
         requires can { P.can_eval self.now.inner.now }
         requires fits { Fits mark state.old }
         requires inside { end ≤ length state.old.context.line }
-        ensures { Retry T (P.outcome self.now.inner.now)
-            (EndsRun (P.describes self.now.inner.now) self.now.info.now)
+        ensures { Retry T (outcome_of (P.grammar self.now.inner.now))
+            (EndsRun (describes_of (P.grammar self.now.inner.now)) self.now.info.now)
             (undone mark state.old) from end failure
             state.old result state.new }
     {
@@ -65,8 +66,8 @@ impl<T: Drop, P: Parser<T>> Run<'_, T, P> {
     fn attempts(&self, state: &mut State, from: usize) -> Result<T, ParseFailure>
         requires can { P.can_eval self.now.inner.now }
         requires inside { from ≤ length state.old.context.line }
-        ensures { Attempts T (P.outcome self.now.inner.now)
-            (EndsRun (P.describes self.now.inner.now) self.now.info.now)
+        ensures { Attempts T (outcome_of (P.grammar self.now.inner.now))
+            (EndsRun (describes_of (P.grammar self.now.inner.now)) self.now.info.now)
             state.old from result state.new }
     {
         let mark = state.mark();
@@ -82,8 +83,8 @@ impl<T: Drop, P: Parser<T>> Run<'_, T, P> {
     pub(crate) fn run_adjacent(&self, state: &mut State) -> Result<T, ParseFailure>
         requires can { P.can_eval self.now.inner.now }
         requires word { state.old.start < state.old.end }
-        ensures { AdjacentRuns T (P.outcome self.now.inner.now)
-            (EndsRun (P.describes self.now.inner.now) self.now.info.now)
+        ensures { AdjacentRuns T (outcome_of (P.grammar self.now.inner.now))
+            (EndsRun (describes_of (P.grammar self.now.inner.now)) self.now.info.now)
             state.old result state.new }
     {
         let scope = state.scope();

@@ -1,9 +1,5 @@
 //! Arguments.
-ghost use Rattle.std.specs.{Result.IfErr, Prelude.◌≡◌};
-ghost use Rattle.bpaf_laws.specs.Leaves.{ArgumentOutcome, ArgumentReads, argument_shape};
-ghost use Rattle.bpaf_laws.specs.{Leaves.KeyBeforeEnvironment, Laws.of_arguments};
-ghost use Rattle.bpaf_laws.proofs.{ArgumentLaws.argument_lawful, ShownNames.argument_shows};
-ghost use Rattle.bpaf_core.specs.Run.{FaultsTextAlone};
+ghost use Rattle.bpaf_grammar.specs.Grammar.{argument};
 
 use crate::parser::Parser;
 use bpaf_doc::Meta;
@@ -25,22 +21,9 @@ use std::alloc::{AllocError, Global};
 impl<T: FromText> Parser<T> for ParseArgument<T> {
     ghost can_eval = { λ p. Unit {0} };
 
-    ghost describes = { λ p shape. shape ≡ argument_shape p };
+    ghost grammar = { λ p. argument T.means p };
 
-    ghost shorts = { λ p. of_arguments p.named.names.shorts };
-
-    ghost reads = { λ p. ArgumentReads T T.means p };
-
-    ghost outcome = { λ p. ArgumentOutcome T.means p };
-
-    #[tactic(auto, using(bpaf_laws::proofs::ArgumentLaws::refused_first))]
-    fn eval(&self, state: &mut State) -> Result<T, Error>
-        ensures outcome { ArgumentOutcome T.means self.now state.old result state.new }
-        ensures key_before_environment { KeyBeforeEnvironment T.means self.now
-            state.old result state.new }
-        ensures memory_is_never_caught { IfErr result (FaultsTextAlone T.means self.now
-            state.old state.new) }
-    {
+    fn eval(&self, state: &mut State) -> Result<T, Error> {
         let text = take_argument(self, state)?;
         read_text(state, text.as_str())
     }
@@ -51,8 +34,4 @@ impl<T: FromText> Parser<T> for ParseArgument<T> {
             None => Ok(Meta::Skip),
         }
     }
-
-    ghost lawful = { λ p. argument_lawful T T.means p };
-
-    ghost shows = { λ p. argument_shows p };
 }

@@ -1,8 +1,8 @@
 //! A choice of two parsers.
-ghost use Rattle.bpaf_laws.specs.Choice.{ChoiceOutcome, ChoiceReads, ChoiceDescribes, LeftmostWins};
-ghost use Rattle.bpaf_laws.specs.Laws.{IsNotMemory, WithoutMemory, joined_shorts};
+ghost use Rattle.bpaf_grammar.specs.Grammar.{choice};
+ghost use Rattle.bpaf_grammar.specs.Grammar.{outcome_of};
+ghost use Rattle.bpaf_laws.specs.Choice.{ChoiceOutcome};
 ghost use Rattle.bpaf_parts.specs.Branches.{HasAnswered, IsStart, start_of};
-ghost use Rattle.bpaf_laws.proofs.{ChoiceLaws.choice_lawful, ShownNames.choice_shows};
 
 use crate::parser::Parser;
 use bpaf_doc::Meta;
@@ -24,7 +24,7 @@ pub fn or_parser<T: Drop, P: Parser<T>>(
     requires parser { P.can_eval parser.now }
     requires start { IsStart start state.old }
     ensures { ChoiceOutcome (HasAnswered (start_of start state.old) first state.old)
-        (P.outcome parser.now) (start_of start state.old) result state.new }
+        (outcome_of (P.grammar parser.now)) (start_of start state.old) result state.new }
 {
     if is_want(&first) {
         state.undo(start.mark);
@@ -57,26 +57,9 @@ pub struct ParseOrElse<A, B> {
 impl<T: Drop, A: Parser<T>, B: Parser<T>> Parser<T> for ParseOrElse<A, B> {
     ghost can_eval = { λ p. A.can_eval p.this × B.can_eval p.that };
 
-    ghost describes = { λ p. ChoiceDescribes (A.describes p.this) (B.describes p.that) };
+    ghost grammar = { λ p. choice (A.grammar p.this) (B.grammar p.that) };
 
-    ghost shorts = { λ p. joined_shorts (A.shorts p.this) (B.shorts p.that) };
-
-    ghost reads = { λ p. ChoiceReads (A.reads p.this) (B.reads p.that) };
-
-    ghost outcome = { λ p. ChoiceOutcome (A.outcome p.this) (B.outcome p.that) };
-
-    fn eval(&self, state: &mut State) -> Result<T, Error>
-        requires this { A.can_eval self.now.this }
-        requires that { B.can_eval self.now.that }
-        ensures outcome { ChoiceOutcome (A.outcome self.now.this) (B.outcome self.now.that)
-            state.old result state.new }
-        ensures leftmost_wins { LeftmostWins (A.outcome self.now.this) (B.outcome self.now.that)
-            state.old result state.new }
-        ensures memory_is_never_caught { IsNotMemory result →
-            ChoiceOutcome (WithoutMemory (A.outcome self.now.this))
-            (WithoutMemory (B.outcome self.now.that))
-            state.old result state.new }
-    {
+    fn eval(&self, state: &mut State) -> Result<T, Error> {
         let start = Start::of(state);
         let first = self.this.eval(state);
         or_parser(state, start, first, &self.that)
@@ -87,8 +70,4 @@ impl<T: Drop, A: Parser<T>, B: Parser<T>> Parser<T> for ParseOrElse<A, B> {
         let second = self.that.meta(alloc)?;
         or_meta(alloc, first, second)
     }
-
-    ghost lawful = { λ p. choice_lawful (A.lawful p.this) (B.lawful p.that) };
-
-    ghost shows = { λ p. choice_shows (A.shows p.this) (B.shows p.that) };
 }

@@ -1,9 +1,8 @@
 //! All values of a parser, in a collection of the caller's choice.
-ghost use Rattle.std.specs.Prelude.{◌≡◌, true, List};
-ghost use Rattle.bpaf_laws.specs.Combinators.{CollectOutcome, ListReads, CollectIsBounded};
-ghost use Rattle.bpaf_laws.specs.Combinators.{ManyDescribes, MapReads};
-ghost use Rattle.bpaf_laws.specs.Laws.{IsNotMemory, WithoutMemory};
-ghost use Rattle.bpaf_laws.proofs.{CombinatorLaws.collect_lawful, ShownNames.many_shows};
+ghost use Rattle.bpaf_grammar.specs.Grammar.{repeat, collect};
+ghost use Rattle.bpaf_grammar.specs.Grammar.{outcome_of};
+ghost use Rattle.std.specs.Prelude.{◌≡◌, true};
+ghost use Rattle.bpaf_laws.specs.Combinators.{CollectOutcome};
 
 use crate::parser::Parser;
 use crate::repeat::values_until_stop;
@@ -21,7 +20,7 @@ fn collect_values<T: Drop, C: FromList<T>, P: Parser<T>>(
     catches: bool,
 ) -> Result<C, Error>
     requires { P.can_eval parser.now }
-    ensures { CollectOutcome (P.outcome parser.now) catches C.fills state.old result state.new }
+    ensures { CollectOutcome (outcome_of (P.grammar parser.now)) catches C.fills state.old result state.new }
 {
     let values = values_until_stop(parser, state, catches)?;
     Ok(C::from_list(values)?)
@@ -57,33 +56,13 @@ impl<P, C, T> ParseCollect<P, C, T> {
 impl<T: Drop, C: FromList<T> + Drop, P: Parser<T>> Parser<C> for ParseCollect<P, C, T> {
     ghost can_eval = { λ p. P.can_eval p.inner };
 
-    ghost describes = { λ p. ManyDescribes (P.describes p.inner) };
+    ghost grammar = { λ p. repeat (collect p.catch C.fills) (P.grammar p.inner) };
 
-    ghost shorts = { λ p. P.shorts p.inner };
-
-    ghost reads = { λ p. MapReads (List T) C (ListReads (P.reads p.inner)) C.fills };
-
-    ghost outcome = { λ p. CollectOutcome (P.outcome p.inner) p.catch C.fills };
-
-    fn eval(&self, state: &mut State) -> Result<C, Error>
-        requires { P.can_eval self.now.inner }
-        ensures outcome { CollectOutcome (P.outcome self.now.inner) self.now.catch C.fills
-            state.old result state.new }
-        ensures repeat_is_bounded { CollectIsBounded (P.outcome self.now.inner) self.now.catch
-            C.fills
-            state.old result state.new }
-        ensures memory_is_never_caught { IsNotMemory result →
-            CollectOutcome (WithoutMemory (P.outcome self.now.inner)) self.now.catch C.fills
-            state.old result state.new }
-    {
+    fn eval(&self, state: &mut State) -> Result<C, Error> {
         collect_values(&self.inner, state, self.catch)
     }
 
     fn meta(&self, alloc: Global) -> Result<Meta, AllocError> {
         many_meta(alloc, self.inner.meta(alloc)?)
     }
-
-    ghost lawful = { λ p. collect_lawful (P.lawful p.inner) p.catch C.fills };
-
-    ghost shows = { λ p. many_shows (P.shows p.inner) };
 }

@@ -1,10 +1,9 @@
 //! How many values a parser gives, and the last of them.
-ghost use Rattle.bpaf_laws.specs.Combinators.{CountOutcome, LastOutcome, ListReads, ManyDescribes};
-ghost use Rattle.bpaf_laws.specs.Combinators.{EndsIn, SomeDescribes, UntilFault, UntilRest};
-ghost use Rattle.bpaf_laws.specs.{Laws.IsNotMemory, Laws.WithoutMemory, Combinators.MapReads};
-ghost use Rattle.std.specs.Prelude.{◌≡◌, IfErr, IfOk, List, ℕ, length, [], ◌∷◌, ◌++◌};
-ghost use Rattle.bpaf_laws.proofs.ShownNames.{many_shows, some_shows};
-ghost use Rattle.bpaf_laws.proofs.CombinatorLaws.{count_lawful, last_lawful};
+ghost use Rattle.bpaf_grammar.specs.Grammar.{repeat, count, last};
+ghost use Rattle.bpaf_grammar.specs.Grammar.{outcome_of};
+ghost use Rattle.bpaf_laws.specs.Combinators.{CountOutcome, LastOutcome};
+ghost use Rattle.bpaf_laws.specs.Combinators.{EndsIn, UntilFault, UntilRest};
+ghost use Rattle.std.specs.Prelude.{◌≡◌, IfErr, IfOk, List, length};
 
 use crate::optional::parse_option;
 use crate::parser::Parser;
@@ -25,9 +24,9 @@ struct Counted<T> {
 fn count_values<T: Drop, P: Parser<T>>(parser: &P, state: &mut State) -> Result<Counted<T>, Error>
     requires { P.can_eval parser.now }
     ensures ok { IfOk result (λ counted. (values : List T)
-        × UntilRest (P.outcome parser.now) state.old values state.new
+        × UntilRest (outcome_of (P.grammar parser.now)) state.old values state.new
         × (counted.count ≡ length values) × EndsIn values counted.last) }
-    ensures err { IfErr result (λ e. UntilFault (P.outcome parser.now) state.old e state.new) }
+    ensures err { IfErr result (λ e. UntilFault (outcome_of (P.grammar parser.now)) state.old e state.new) }
 {
     let present_at_start = state.len();
     let mut left = present_at_start;
@@ -47,7 +46,7 @@ fn count_values<T: Drop, P: Parser<T>>(parser: &P, state: &mut State) -> Result<
 /// How many of these values there are.
 fn number_of_values<T: Drop, P: Parser<T>>(parser: &P, state: &mut State) -> Result<usize, Error>
     requires { P.can_eval parser.now }
-    ensures { CountOutcome (P.outcome parser.now) state.old result state.new }
+    ensures { CountOutcome (outcome_of (P.grammar parser.now)) state.old result state.new }
 {
     Ok(count_values(parser, state)?.count)
 }
@@ -55,7 +54,7 @@ fn number_of_values<T: Drop, P: Parser<T>>(parser: &P, state: &mut State) -> Res
 /// The last of these values; without one what the parser answers once more.
 fn last_value<T: Drop, P: Parser<T>>(parser: &P, state: &mut State) -> Result<T, Error>
     requires { P.can_eval parser.now }
-    ensures { LastOutcome (P.outcome parser.now) state.old result state.new }
+    ensures { LastOutcome (outcome_of (P.grammar parser.now)) state.old result state.new }
 {
     match count_values(parser, state)?.last {
         Some(value) => Ok(value),
@@ -75,32 +74,15 @@ pub struct ParseCount<P, T> {
 impl<T: Drop, P: Parser<T>> Parser<usize> for ParseCount<P, T> {
     ghost can_eval = { λ p. P.can_eval p.inner };
 
-    ghost describes = { λ p. ManyDescribes (P.describes p.inner) };
+    ghost grammar = { λ p. repeat count (P.grammar p.inner) };
 
-    ghost shorts = { λ p. P.shorts p.inner };
-
-    ghost reads = { λ p.
-        MapReads (List T) ℕ (ListReads (P.reads p.inner)) (λ values n. n ≡ length values) };
-
-    ghost outcome = { λ p. CountOutcome (P.outcome p.inner) };
-
-    #[tactic(auto, using(bpaf_laws::proofs::Sparing::spared_count))]
-    fn eval(&self, state: &mut State) -> Result<usize, Error>
-        requires { P.can_eval self.now.inner }
-        ensures outcome { CountOutcome (P.outcome self.now.inner) state.old result state.new }
-        ensures memory_is_never_caught { IsNotMemory result →
-            CountOutcome (WithoutMemory (P.outcome self.now.inner)) state.old result state.new }
-    {
+    fn eval(&self, state: &mut State) -> Result<usize, Error> {
         number_of_values(&self.inner, state)
     }
 
     fn meta(&self, alloc: Global) -> Result<Meta, AllocError> {
         many_meta(alloc, self.inner.meta(alloc)?)
     }
-
-    ghost lawful = { λ p. count_lawful (P.lawful p.inner) };
-
-    ghost shows = { λ p. many_shows (P.shows p.inner) };
 }
 
 /// The last inner value (bpaf's `ParseLast`, in `structs.rs`).
@@ -115,30 +97,13 @@ pub struct ParseLast<P> {
 impl<T: Drop, P: Parser<T>> Parser<T> for ParseLast<P> {
     ghost can_eval = { λ p. P.can_eval p.inner };
 
-    ghost describes = { λ p. SomeDescribes (P.describes p.inner) };
+    ghost grammar = { λ p. last (P.grammar p.inner) };
 
-    ghost shorts = { λ p. P.shorts p.inner };
-
-    ghost reads = { λ p. MapReads (List T) T (ListReads (P.reads p.inner))
-        (λ values v. (before : List T) × (values ≡ before ++ v ∷ [])) };
-
-    ghost outcome = { λ p. LastOutcome (P.outcome p.inner) };
-
-    #[tactic(auto, using(bpaf_laws::proofs::Sparing::spared_last))]
-    fn eval(&self, state: &mut State) -> Result<T, Error>
-        requires { P.can_eval self.now.inner }
-        ensures outcome { LastOutcome (P.outcome self.now.inner) state.old result state.new }
-        ensures memory_is_never_caught { IsNotMemory result →
-            LastOutcome (WithoutMemory (P.outcome self.now.inner)) state.old result state.new }
-    {
+    fn eval(&self, state: &mut State) -> Result<T, Error> {
         last_value(&self.inner, state)
     }
 
     fn meta(&self, alloc: Global) -> Result<Meta, AllocError> {
         some_meta(alloc, self.inner.meta(alloc)?)
     }
-
-    ghost lawful = { λ p. last_lawful (P.lawful p.inner) };
-
-    ghost shows = { λ p. some_shows (P.shows p.inner) };
 }

@@ -1,12 +1,9 @@
 //! A value that stands in where a parser gives none.
+ghost use Rattle.bpaf_grammar.specs.Grammar.{fallback, cloned, answered};
+ghost use Rattle.bpaf_grammar.specs.Grammar.{outcome_of};
 ghost use Rattle.std.specs.{Prelude.◌≡◌, Prelude.IfOk, Prelude.Ok, Fn.FnReturnsAt};
 ghost use Rattle.bpaf_laws.specs.Combinators.{AttemptOutcome, ShowsAnswer, ShowsDefault};
-ghost use Rattle.bpaf_laws.specs.Combinators.{ShowsFormatted, FallbackOutcome, GivesClone};
-ghost use Rattle.bpaf_laws.specs.Combinators.{DefaultDescribes, GivesAnswer, PureReads};
-ghost use Rattle.bpaf_laws.specs.Laws.{IsNotMemory, WithoutMemory, DefaultTakesNothing};
-ghost use Rattle.bpaf_laws.specs.Choice.{ChoiceReads};
-ghost use Rattle.bpaf_laws.proofs.CombinatorLaws.{fallback_lawful, names_answer};
-ghost use Rattle.bpaf_laws.proofs.{Keeping.names_want, ShownNames.default_shows};
+ghost use Rattle.bpaf_laws.specs.Combinators.{ShowsFormatted};
 
 use crate::parser::Parser;
 use bpaf_doc::{Doc, Meta};
@@ -20,7 +17,7 @@ use std::marker::PhantomData;
 /// but a value the state is as before.
 fn attempt<T, P: Parser<T>>(parser: &P, state: &mut State) -> Result<Option<T>, Error>
     requires { P.can_eval parser.now }
-    ensures { AttemptOutcome (P.outcome parser.now) state.old result state.new }
+    ensures { AttemptOutcome (outcome_of (P.grammar parser.now)) state.old result state.new }
 {
     let mark = state.mark();
     match parser.eval(state) {
@@ -105,27 +102,9 @@ impl<T: Drop, P: Drop> ParseFallback<P, T> {
 impl<T: Clone, P: Parser<T>> Parser<T> for ParseFallback<P, T> {
     ghost can_eval = { λ p. P.can_eval p.inner };
 
-    ghost describes = { λ p. DefaultDescribes (P.describes p.inner) p.shown };
+    ghost grammar = { λ p. fallback p.shown (cloned T.is_clone p.value) (P.grammar p.inner) };
 
-    ghost shorts = { λ p. P.shorts p.inner };
-
-    ghost reads = { λ p.
-        ChoiceReads (P.reads p.inner) (PureReads (T.is_clone p.value)) };
-
-    ghost outcome = { λ p. FallbackOutcome (P.outcome p.inner) (GivesClone T.is_clone p.value) };
-
-    fn eval(&self, state: &mut State) -> Result<T, Error>
-        requires { P.can_eval self.now.inner }
-        ensures outcome { FallbackOutcome (P.outcome self.now.inner)
-            (GivesClone T.is_clone self.now.value)
-            state.old result state.new }
-        ensures default_takes_nothing { DefaultTakesNothing (P.outcome self.now.inner)
-            state.old result state.new }
-        ensures memory_is_never_caught { IsNotMemory result →
-            FallbackOutcome (WithoutMemory (P.outcome self.now.inner))
-            (GivesClone T.is_clone self.now.value)
-            state.old result state.new }
-    {
+    fn eval(&self, state: &mut State) -> Result<T, Error> {
         match attempt(&self.inner, state)? {
             Some(value) => Ok(value),
             None => Ok(self.value.clone()?),
@@ -135,11 +114,6 @@ impl<T: Clone, P: Parser<T>> Parser<T> for ParseFallback<P, T> {
     fn meta(&self, alloc: Global) -> Result<Meta, AllocError> {
         default_meta(alloc, self.inner.meta(alloc)?, &self.shown)
     }
-
-    ghost lawful = { λ p. fallback_lawful (P.lawful p.inner) (GivesClone T.is_clone p.value)
-        (λ context e. names_want context e.0) };
-
-    ghost shows = { λ p. default_shows (P.shows p.inner) p.shown };
 }
 
 /// A closure's value where the inner parser has none (bpaf's `ParseFallbackWith`, in `structs.rs`).
@@ -225,30 +199,10 @@ impl<T, E: Display + Drop, P: Parser<T>, F: Fn() -> Result<T, E>> Parser<T>
     for ParseFallbackWith<T, P, F, E> {
     ghost can_eval = { λ p. P.can_eval p.inner × F.IsAlwaysCallable p.fallback };
 
-    ghost describes = { λ p. DefaultDescribes (P.describes p.inner) p.shown };
+    ghost grammar = { λ p.
+        fallback p.shown (answered (λ r. F.post p.fallback r) E.output) (P.grammar p.inner) };
 
-    ghost shorts = { λ p. P.shorts p.inner };
-
-    ghost reads = { λ p.
-        ChoiceReads (P.reads p.inner)
-        (PureReads (λ v. F.post p.fallback (Ok v))) };
-
-    ghost outcome = { λ p.
-        FallbackOutcome (P.outcome p.inner) (GivesAnswer (λ r. F.post p.fallback r) E.output) };
-
-    fn eval(&self, state: &mut State) -> Result<T, Error>
-        requires inner { P.can_eval self.now.inner }
-        requires callable { F.IsAlwaysCallable self.now.fallback }
-        ensures outcome { FallbackOutcome (P.outcome self.now.inner)
-            (GivesAnswer (λ r. F.post self.now.fallback r) E.output)
-            state.old result state.new }
-        ensures default_takes_nothing { DefaultTakesNothing (P.outcome self.now.inner)
-            state.old result state.new }
-        ensures memory_is_never_caught { IsNotMemory result →
-            FallbackOutcome (WithoutMemory (P.outcome self.now.inner))
-            (GivesAnswer (λ r. F.post self.now.fallback r) E.output)
-            state.old result state.new }
-    {
+    fn eval(&self, state: &mut State) -> Result<T, Error> {
         match attempt(&self.inner, state)? {
             Some(value) => Ok(value),
             None => given_by(state.alloc(), &self.fallback),
@@ -258,10 +212,4 @@ impl<T, E: Display + Drop, P: Parser<T>, F: Fn() -> Result<T, E>> Parser<T>
     fn meta(&self, alloc: Global) -> Result<Meta, AllocError> {
         default_meta(alloc, self.inner.meta(alloc)?, &self.shown)
     }
-
-    ghost lawful = { λ p.
-        fallback_lawful (P.lawful p.inner) (GivesAnswer (λ r. F.post p.fallback r) E.output)
-        (names_answer (λ r. F.post p.fallback r) E.output) };
-
-    ghost shows = { λ p. default_shows (P.shows p.inner) p.shown };
 }

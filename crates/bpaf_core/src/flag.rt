@@ -1,9 +1,5 @@
 //! Flags.
-ghost use Rattle.std.specs.{Prelude.◌≡◌, Result.IfErr};
-ghost use Rattle.bpaf_core.specs.Run.{ClonesNothing};
-ghost use Rattle.bpaf_laws.specs.Leaves.{FlagOutcome, FlagReads, flag_shape};
-ghost use Rattle.bpaf_laws.specs.Laws.{of_flags};
-ghost use Rattle.bpaf_laws.proofs.{LeafLaws.flag_lawful, ShownNames.flag_shows};
+ghost use Rattle.bpaf_grammar.specs.Grammar.{flag};
 
 use crate::parser::Parser;
 use bpaf_doc::Meta;
@@ -21,21 +17,9 @@ use std::alloc::{AllocError, Global};
 impl<T: Clone> Parser<T> for ParseFlag<T> {
     ghost can_eval = { λ p. Unit {0} };
 
-    ghost describes = { λ p shape. shape ≡ flag_shape p.named p.absent };
+    ghost grammar = { λ p. flag T.is_clone p.named p.present p.absent };
 
-    ghost shorts = { λ p. of_flags p.named.names.shorts };
-
-    ghost reads = { λ p. FlagReads T T.is_clone p.named p.present p.absent };
-
-    ghost outcome = { λ p. FlagOutcome T.is_clone p.named p.present p.absent };
-
-    #[tactic(auto, using(crate::proofs::Sparing::flag_clones_nothing))]
-    fn eval(&self, state: &mut State) -> Result<T, Error>
-        ensures outcome { FlagOutcome T.is_clone self.now.named self.now.present self.now.absent
-            state.old result state.new }
-        ensures memory_is_never_caught { IfErr result (ClonesNothing self.now.named
-            self.now.absent state.old state.new) }
-    {
+    fn eval(&self, state: &mut State) -> Result<T, Error> {
         if is_flag_present(self, state) {
             return Ok(self.present.clone()?);
         }
@@ -57,8 +41,4 @@ impl<T: Clone> Parser<T> for ParseFlag<T> {
             None => Ok(Meta::Item(item)),
         }
     }
-
-    ghost lawful = { λ p. flag_lawful T T.is_clone p.named p.present p.absent };
-
-    ghost shows = { λ p. flag_shows p.named p.absent };
 }

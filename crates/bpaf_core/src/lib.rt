@@ -1,44 +1,39 @@
 //! Parsers: what reads a value off a line, and a run over a whole line.
 //!
-//! It stands on `bpaf_keys`, whose [`Info`] and [`CommandNames`] it hands on, on `bpaf_parts`,
-//! whose [`read_text`] it hands on, and on the crates below these. For the layers above:
+//! It stands on `bpaf_grammar`, on `bpaf_keys`, whose [`Info`] and [`CommandNames`] it hands on, on
+//! `bpaf_parts`, whose [`read_text`] it hands on, and on the crates below these. For the layers
+//! above:
 //!
-//! - [`Parser`] is the trait of every parser. By its ghost members an implementation says what it
-//!   means: `reads`, which values may be read off which places of a line; `outcome`, what one
-//!   evaluation may answer in a situation and which situation it leaves; `describes`, what it may
-//!   show of itself; `shorts`, which short names of keys it shows. Its law `lawful` ties the
-//!   outcome to the readings: the newly taken places with the value are a reading, each taken place
-//!   lay present in the scope, and so on; and what a run inside ended with, handed on as a refusal,
-//!   has one of twelve names on this line. Its law `shows` ties what it may show to the short names.
-//!   Every implementation proves them, from the laws of its inner parsers alone. What a parser
-//!   means, and both laws, are defined in `bpaf_laws`.
+//! - [`Parser`] is the trait of every parser. An implementation says of what it is made, by its
+//!   ghost member `grammar`, and its `eval` and `meta` answer and show what that tells. All else
+//!   follows from the grammar: which values may be read off which places of a line, that the newly
+//!   taken places with the value are a reading, which short names are shown (`bpaf_grammar`).
 //! - [`bpaf_text::ParseFlag`] and [`bpaf_text::ParseArgument`] are the first parsers. Where their
 //!   key isn't on the line, the first of their names in the environment that is set counts.
 //! - [`ParseMap`], [`ParseWith`] and [`ParseGuard`] change or check a value; [`ParseOptional`],
-//!   [`ParseFallback`] and [`ParseFallbackWith`] stand in for one that isn't there. By clauses of
-//!   their `eval` none of these catches want of memory, and a value that stands in takes no item.
+//!   [`ParseFallback`] and [`ParseFallbackWith`] stand in for one that isn't there, and a value that
+//!   stands in takes no item.
 //! - [`ParseMany`], [`ParseSome`], [`ParseCollect`], [`ParseCount`] and [`ParseLast`] take turns of
 //!   one parser until one stops; [`bpaf_text::FromList`] is what a list of values fills. Each turn
 //!   but the first takes an item, so there are no more values than items present at the start and
-//!   one (clause `repeat_is_bounded`), and none catches want of memory (clause
-//!   `memory_is_never_caught`).
+//!   one.
 //! - [`ParseOrElse`] is one of two parsers, both evaluated from the same state: the table of
 //!   [`bpaf_parts::this_or_that`] decides whose answer counts. [`or_parser`], [`Start`] and
 //!   [`or_meta`] are for the crates of this repository, not for callers. The branch that took the
-//!   leftmost place taken by only one of them wins (clause `leftmost_wins`).
+//!   leftmost place taken by only one of them wins.
 //! - [`ParseHide`] names no missing item in its refusals; [`ParseUsage`], [`ParseGroupHelp`] and
-//!   [`ParseWithGroupHelp`] change only what is shown: their outcome, their readings and their law
-//!   are those of the parser inside.
+//!   [`ParseWithGroupHelp`] change only what is shown: they answer and read what the parser inside
+//!   does.
 //! - [`ParseCommand`], which [`command`] and [`OptionParser::command`] make, is a word that opens a
-//!   run of its own over the items behind it (specs/Command.antt). It answers a value only where
-//!   that run leaves nothing in the scope that the command was given (clause
-//!   `command_leaves_nothing`), and catches no want of memory. What the run refuses has its name in
-//!   that run, and a page is one of its parser (clause `named_inside`, specs/Refusals.antt).
+//!   run of its own over the items behind it. It answers a value only where that run leaves nothing
+//!   in the scope that the command was given. What the run refuses has its name in that run, and a
+//!   page is one of its parser.
 //! - [`OptionParser::run_inner`] runs a parser over words. It answers a value only where that is
-//!   dealt out of the words: read off all items of their line but the first `--`, each used once
-//!   (specs/Run.antt), whatever the parser's type.
+//!   dealt out of the words: read off all items of their line but the first `--`, each used once,
+//!   whatever the parser's type.
 //!
-//! Nothing above this crate uses more of a parser than these members, and its law.
+//! No parser catches want of memory. That, and the others of these promises, are theorems on
+//! grammars (proofs/Promises.antt of `bpaf_grammar`), and clauses of `evaluate` of `bpaf`.
 //!
 //! The source of the design is bpaf's `lib.rs`, `params.rs`, `structs.rs` and `info.rs`.
 #![tactic(auto)]

@@ -1,8 +1,8 @@
 //! A value that may be missing.
+ghost use Rattle.bpaf_grammar.specs.Grammar.{optional};
+ghost use Rattle.bpaf_grammar.specs.Grammar.{outcome_of};
 ghost use Rattle.std.specs.Prelude.{◌≡◌, true};
-ghost use Rattle.bpaf_laws.specs.Combinators.{TurnOutcome, OptionalReads, OptionalDescribes};
-ghost use Rattle.bpaf_laws.specs.Laws.{IsNotMemory, WithoutMemory, NoneTakesNothing};
-ghost use Rattle.bpaf_laws.proofs.{CombinatorLaws.optional_lawful, ShownNames.optional_shows};
+ghost use Rattle.bpaf_laws.specs.Combinators.{TurnOutcome};
 
 use crate::parser::Parser;
 use bpaf_doc::Meta;
@@ -22,7 +22,7 @@ pub(crate) fn parse_option<T: Drop, P: Parser<T>>(
     first: bool,
 ) -> Result<Option<T>, Error>
     requires { P.can_eval parser.now }
-    ensures { TurnOutcome (P.outcome parser.now) catches first state.old result state.new }
+    ensures { TurnOutcome (outcome_of (P.grammar parser.now)) catches first state.old result state.new }
 {
     let mark = state.mark();
     let left = state.len();
@@ -75,32 +75,13 @@ impl<P> ParseOptional<P> {
 impl<T: Drop, P: Parser<T>> Parser<Option<T>> for ParseOptional<P> {
     ghost can_eval = { λ p. P.can_eval p.inner };
 
-    ghost describes = { λ p. OptionalDescribes (P.describes p.inner) };
+    ghost grammar = { λ p. optional p.catch (P.grammar p.inner) };
 
-    ghost shorts = { λ p. P.shorts p.inner };
-
-    ghost reads = { λ p. OptionalReads (P.reads p.inner) };
-
-    ghost outcome = { λ p. TurnOutcome (P.outcome p.inner) p.catch true };
-
-    #[tactic(auto, using(bpaf_laws::proofs::Sparing::none_takes_nothing, bpaf_laws::proofs::Sparing::spared_step))]
-    fn eval(&self, state: &mut State) -> Result<Option<T>, Error>
-        requires { P.can_eval self.now.inner }
-        ensures outcome { TurnOutcome (P.outcome self.now.inner) self.now.catch true
-            state.old result state.new }
-        ensures default_takes_nothing { NoneTakesNothing state.old result state.new }
-        ensures memory_is_never_caught { IsNotMemory result →
-            TurnOutcome (WithoutMemory (P.outcome self.now.inner)) self.now.catch true
-            state.old result state.new }
-    {
+    fn eval(&self, state: &mut State) -> Result<Option<T>, Error> {
         parse_option(&self.inner, state, self.catch, true)
     }
 
     fn meta(&self, alloc: Global) -> Result<Meta, AllocError> {
         optional_meta(alloc, self.inner.meta(alloc)?)
     }
-
-    ghost lawful = { λ p. optional_lawful (P.lawful p.inner) p.catch };
-
-    ghost shows = { λ p. optional_shows (P.shows p.inner) };
 }

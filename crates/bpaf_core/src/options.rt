@@ -1,9 +1,10 @@
 //! Options: a parser, and the texts and keys of its run.
+ghost use Rattle.bpaf_grammar.specs.Grammar.{describes_of};
 ghost use Rattle.std.specs.Prelude.{◌≡◌, IfOk, List, Ok, Some, true};
 ghost use Rattle.bpaf_doc.specs.Print.{text_pieces, Prints};
 ghost use Rattle.bpaf_doc.specs.{declared.doc.Piece.Piece, Shape.Shape};
 ghost use Rattle.bpaf_pages.specs.Help.{usage_text};
-ghost use Rattle.bpaf_core.specs.Run.{TellsOrder};
+ghost use Rattle.bpaf_grammar.specs.Run.{TellsOrder};
 
 use crate::parser::Parser;
 use bpaf_doc::Doc;
@@ -234,7 +235,7 @@ impl<T: Drop, P: Parser<T>> OptionParser<T, P> {
         P: Drop,
         requires can { P.can_eval self.inner }
         requires callable { F.IsAlwaysCallable f }
-        ensures { IfOk result (λ parser. (shape : Shape) × P.describes self.inner shape
+        ensures { IfOk result (λ parser. (shape : Shape) × describes_of (P.grammar self.inner) shape
             × (shown usage : List Piece) × Prints (usage_text shape) shown
             × F.post f shown (Ok usage)
             × (parser ≡ record self { info = record self.info { usage = Some usage } })) }
@@ -255,7 +256,7 @@ impl<T: Drop, P: Parser<T>> OptionParser<T, P> {
     /// ```
     pub fn check_invariants(&self, _cosmetic: bool) -> Result<bool, AllocError>
         requires { P.can_eval self.now.inner }
-        ensures { IfOk result (λ good. TellsOrder (P.describes self.now.inner) good) }
+        ensures { IfOk result (λ good. TellsOrder (describes_of (P.grammar self.now.inner)) good) }
     {
         Ok(self.inner.meta(self.alloc)?.positional_order())
     }

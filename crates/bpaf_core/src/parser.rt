@@ -1,13 +1,12 @@
-//! The trait of all parsers: what one answers, what it shows, and its laws.
+//! The trait of all parsers: of what one is made, what it answers and what it shows.
 ghost use Rattle.std.specs.Prelude.{◌≡◌, IfOk, false, Some, None};
 ghost use Rattle.std.specs.Result.{IfErr};
-ghost use Rattle.bpaf_doc.specs.Shape.{shape_of, Shape};
-ghost use Rattle.bpaf_words.specs.{Arguments.given_of, Line.ShortNames};
-ghost use Rattle.bpaf_laws.specs.Reading.{Outcome, Readings};
-ghost use Rattle.bpaf_laws.specs.Laws.{WithoutMemory, Lawful, ShowsNames};
-ghost use Rattle.bpaf_keys.specs.Info.{plain_info, known_names};
-ghost use Rattle.bpaf_core.specs.Run.{IsNotWant, RunsWords, IsDealtOut};
-ghost use Rattle.bpaf_core.specs.Refusals.{IsOneOfTwelve};
+ghost use Rattle.bpaf_doc.specs.Shape.{shape_of};
+ghost use Rattle.bpaf_words.specs.{Arguments.given_of};
+ghost use Rattle.bpaf_grammar.specs.Grammar.{Grammar, describes_of, outcome_of};
+ghost use Rattle.bpaf_keys.specs.Info.{plain_info};
+ghost use Rattle.bpaf_grammar.specs.{Run.IsNotWant};
+ghost use Rattle.bpaf_grammar.specs.Words.{Answers, AnswersSpared, Deals, Refuses};
 
 use crate::choice::ParseOrElse;
 use crate::collect::ParseCollect;
@@ -35,30 +34,24 @@ pub trait Parser<T>: Sized {
     /// not.
     ghost can_eval: { Self → Type 0 };
 
-    /// What it may show of itself.
-    ghost describes: { Self → Shape → Type 0 };
-
-    /// The short names of the flags and arguments that it shows, by which joined letters are read.
-    ghost shorts: { Self → ShortNames };
-
-    /// Which values may be read off which places of a line.
-    ghost reads: { Self → Readings T };
-
-    /// What one evaluation may answer in a situation, and which situation it leaves.
-    ghost outcome: { Self → Outcome T };
+    /// Of what it is made. That tells what one evaluation may answer and which situation it leaves
+    /// (`outcome_of`), which values may be read off which places of a line (`reads_of`), what it may
+    /// show of itself (`describes_of`) and the short names of that, by which joined letters are read
+    /// (`shorts_of`); and that it keeps to the laws (`lawful_of`).
+    ghost grammar: { Self → Grammar T };
 
     /// Reads a value off the present items in scope, and takes these.
     ///
-    /// Which values it answers and what it refuses, want of memory too, is what its `outcome`
+    /// Which values it answers and what it refuses, want of memory too, is what its grammar
     /// allows.
     fn eval(&self, state: &mut State) -> Result<T, Error>
         requires { can_eval self.now }
-        ensures { outcome self.now state.old result state.new };
+        ensures { outcome_of (grammar self.now) state.old result state.new };
 
     /// Its shape on the help page and in usage; refused only for want of memory.
     fn meta(&self, alloc: Global) -> Result<Meta, AllocError>
         requires { can_eval self.now }
-        ensures { IfOk result (λ meta. describes self.now (shape_of meta)) };
+        ensures { IfOk result (λ meta. describes_of (grammar self.now) (shape_of meta)) };
 
     /// Applies a closure to the value (bpaf's `Parser::map`).
     ///
@@ -391,22 +384,12 @@ pub trait Parser<T>: Sized {
         T: Drop,
         Self: Drop,
         requires { can_eval self }
-        ensures outcome { RunsWords T (outcome self) (describes self) plain_info
-            (known_names plain_info (shorts self)) (given_of args.entry) result }
-        ensures named { IfErr result (IsOneOfTwelve (outcome self) (describes self) plain_info
-            (known_names plain_info (shorts self)) (given_of args.entry)) }
-        ensures dealt { IfOk result (λ v. IsDealtOut T (reads self)
-            (known_names plain_info (shorts self)) (given_of args.entry) v) }
+        ensures outcome { Answers (grammar self) plain_info (given_of args.entry) result }
+        ensures named { IfErr result (Refuses (grammar self) plain_info (given_of args.entry)) }
+        ensures dealt { IfOk result (Deals (grammar self) plain_info (given_of args.entry)) }
         ensures memory_is_never_caught { IsNotWant result →
-            RunsWords T (WithoutMemory (outcome self)) (describes self) plain_info
-            (known_names plain_info (shorts self)) (given_of args.entry) result }
+            AnswersSpared (grammar self) plain_info (given_of args.entry) result }
     {
         self.to_options(alloc)?.run_once(args)
     }
-
-    /// What each implementation keeps to, whatever it parses.
-    ghost lawful: { (p : Self) → Lawful T (outcome p) (reads p) };
-
-    /// Whichever shape it shows, these are its short names.
-    ghost shows: { (p : Self) → ShowsNames (describes p) (shorts p) };
 }

@@ -1,11 +1,9 @@
 //! All values of a parser, in a list.
-ghost use Rattle.std.specs.Prelude.{◌≡◌, true, IfOk, List, false};
+ghost use Rattle.bpaf_grammar.specs.Grammar.{repeat, many, some};
+ghost use Rattle.bpaf_grammar.specs.Grammar.{outcome_of};
+ghost use Rattle.std.specs.Prelude.{◌≡◌, true};
 ghost use Rattle.std.specs.Global.{Vec};
-ghost use Rattle.bpaf_laws.specs.Combinators.{ManyOutcome, SomeOutcome, ListReads, ManyDescribes};
-ghost use Rattle.bpaf_laws.specs.Combinators.{IsBounded, SomeDescribes, is_nil, MapReads};
-ghost use Rattle.bpaf_laws.specs.Laws.{IsNotMemory, WithoutMemory};
-ghost use Rattle.bpaf_laws.proofs.CombinatorLaws.{many_lawful, some_lawful};
-ghost use Rattle.bpaf_laws.proofs.ShownNames.{many_shows, some_shows};
+ghost use Rattle.bpaf_laws.specs.Combinators.{ManyOutcome, SomeOutcome};
 
 use crate::optional::parse_option;
 use crate::parser::Parser;
@@ -21,7 +19,7 @@ pub(crate) fn values_until_stop<T: Drop, P: Parser<T>>(
     catches: bool,
 ) -> Result<Vec<T>, Error>
     requires { P.can_eval parser.now }
-    ensures { ManyOutcome (P.outcome parser.now) catches state.old result state.new }
+    ensures { ManyOutcome (outcome_of (P.grammar parser.now)) catches state.old result state.new }
 {
     let mut values = Vec::new(state.alloc());
     while let Some(value) = parse_option(parser, state, catches, values.is_empty())? {
@@ -67,35 +65,15 @@ impl<P> ParseMany<P> {
 impl<T: Drop, P: Parser<T>> Parser<Vec<T>> for ParseMany<P> {
     ghost can_eval = { λ p. P.can_eval p.inner };
 
-    ghost describes = { λ p. ManyDescribes (P.describes p.inner) };
+    ghost grammar = { λ p. repeat (many p.catch) (P.grammar p.inner) };
 
-    ghost shorts = { λ p. P.shorts p.inner };
-
-    ghost reads = { λ p.
-        MapReads (List T) (Vec T) (ListReads (P.reads p.inner)) (λ values v. v.items ≡ values) };
-
-    ghost outcome = { λ p. ManyOutcome (P.outcome p.inner) p.catch };
-
-    fn eval(&self, state: &mut State) -> Result<Vec<T>, Error>
-        requires { P.can_eval self.now.inner }
-        ensures outcome { ManyOutcome (P.outcome self.now.inner) self.now.catch
-            state.old result state.new }
-        ensures repeat_is_bounded { IfOk result (λ values.
-            IsBounded (P.outcome self.now.inner) state.old values.items) }
-        ensures memory_is_never_caught { IsNotMemory result →
-            ManyOutcome (WithoutMemory (P.outcome self.now.inner)) self.now.catch
-            state.old result state.new }
-    {
+    fn eval(&self, state: &mut State) -> Result<Vec<T>, Error> {
         values_until_stop(&self.inner, state, self.catch)
     }
 
     fn meta(&self, alloc: Global) -> Result<Meta, AllocError> {
         many_meta(alloc, self.inner.meta(alloc)?)
     }
-
-    ghost lawful = { λ p. many_lawful (P.lawful p.inner) p.catch };
-
-    ghost shows = { λ p. many_shows (P.shows p.inner) };
 }
 
 /// The values of turns, until one stops; without a value it refuses with ParseSome and the message.
@@ -106,7 +84,7 @@ fn some_values<T: Drop, P: Parser<T>>(
     message: &str,
 ) -> Result<Vec<T>, Error>
     requires { P.can_eval parser.now }
-    ensures { SomeOutcome (P.outcome parser.now) catches message.now state.old result state.new }
+    ensures { SomeOutcome (outcome_of (P.grammar parser.now)) catches message.now state.old result state.new }
 {
     let values = values_until_stop(parser, state, catches)?;
     if values.is_empty() {
@@ -144,34 +122,13 @@ impl<'m, P> ParseSome<'m, P> {
 impl<'m, T: Drop, P: Parser<T>> Parser<Vec<T>> for ParseSome<'m, P> {
     ghost can_eval = { λ p. P.can_eval p.inner };
 
-    ghost describes = { λ p. SomeDescribes (P.describes p.inner) };
+    ghost grammar = { λ p. repeat (some p.catch p.message.now) (P.grammar p.inner) };
 
-    ghost shorts = { λ p. P.shorts p.inner };
-
-    ghost reads = { λ p. MapReads (List T) (Vec T) (ListReads (P.reads p.inner))
-        (λ values v. (v.items ≡ values) × (is_nil values ≡ false)) };
-
-    ghost outcome = { λ p. SomeOutcome (P.outcome p.inner) p.catch p.message.now };
-
-    fn eval(&self, state: &mut State) -> Result<Vec<T>, Error>
-        requires { P.can_eval self.now.inner }
-        ensures outcome { SomeOutcome (P.outcome self.now.inner) self.now.catch self.now.message.now
-            state.old result state.new }
-        ensures repeat_is_bounded { IfOk result (λ values.
-            IsBounded (P.outcome self.now.inner) state.old values.items) }
-        ensures memory_is_never_caught { IsNotMemory result →
-            SomeOutcome (WithoutMemory (P.outcome self.now.inner)) self.now.catch
-            self.now.message.now
-            state.old result state.new }
-    {
+    fn eval(&self, state: &mut State) -> Result<Vec<T>, Error> {
         some_values(&self.inner, state, self.catch, self.message)
     }
 
     fn meta(&self, alloc: Global) -> Result<Meta, AllocError> {
         some_meta(alloc, self.inner.meta(alloc)?)
     }
-
-    ghost lawful = { λ p. some_lawful (P.lawful p.inner) p.catch p.message.now };
-
-    ghost shows = { λ p. some_shows (P.shows p.inner) };
 }

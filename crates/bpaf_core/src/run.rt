@@ -1,8 +1,8 @@
 //! A run of a parser from a state on: its value where nothing is left; else help, the version, or
 //! the message.
-ghost use Rattle.std.specs.Prelude.{◌≡◌};
-ghost use Rattle.bpaf_core.specs.Ending.{EndsRefused, EndsRun, PassesOrTells, ShowsHelp, Tells};
-ghost use Rattle.bpaf_core.specs.Run.{Runs};
+ghost use Rattle.bpaf_grammar.specs.Grammar.{outcome_of, describes_of};
+ghost use Rattle.bpaf_grammar.specs.Ending.{EndsRefused, EndsRun, PassesOrTells, ShowsHelp, Tells};
+ghost use Rattle.bpaf_grammar.specs.Run.{Runs};
 
 use crate::parser::Parser;
 use bpaf_keys::{ExtraParams, Info, version_page};
@@ -30,8 +30,8 @@ impl<T: Drop, P: Parser<T>> Run<'_, T, P> {
     /// A run from a state on.
     pub(crate) fn run_from(&self, state: &mut State) -> Result<T, ParseFailure>
         requires { P.can_eval self.now.inner.now }
-        ensures { Runs T (P.outcome self.now.inner.now)
-            (EndsRun (P.describes self.now.inner.now) self.now.info.now)
+        ensures { Runs T (outcome_of (P.grammar self.now.inner.now))
+            (EndsRun (describes_of (P.grammar self.now.inner.now)) self.now.info.now)
             state.old result state.new }
     {
         let usage = self.info.wants_usage(state);
@@ -52,7 +52,7 @@ impl<T: Drop, P: Parser<T>> Run<'_, T, P> {
     #[tactic(auto, using(crate::proofs::Running::memory_ends, crate::proofs::Running::others_end, crate::proofs::Running::usage_ends))]
     fn end_refused(&self, usage: bool, message: Message, state: &mut State) -> ParseFailure
         requires { P.can_eval self.now.inner.now }
-        ensures { EndsRefused (P.describes self.now.inner.now) self.now.info.now usage message
+        ensures { EndsRefused (describes_of (P.grammar self.now.inner.now)) self.now.info.now usage message
             state.old result state.new }
     {
         if message.is_memory() {
@@ -69,7 +69,7 @@ impl<T: Drop, P: Parser<T>> Run<'_, T, P> {
     /// The answer of an inner run as it is, and the text of any other message.
     fn answer(&self, message: Message, state: &mut State) -> ParseFailure
         requires { P.can_eval self.now.inner.now }
-        ensures { PassesOrTells (P.describes self.now.inner.now) self.now.info.now message
+        ensures { PassesOrTells (describes_of (P.grammar self.now.inner.now)) self.now.info.now message
             state.old result state.new }
     {
         match message.into_answer() {
@@ -81,7 +81,7 @@ impl<T: Drop, P: Parser<T>> Run<'_, T, P> {
     /// The help page or the version, where the words ask for it; else the text of the message.
     fn tell(&self, message: Message, state: &mut State) -> ParseFailure
         requires { P.can_eval self.now.inner.now }
-        ensures { Tells (P.describes self.now.inner.now) self.now.info.now message
+        ensures { Tells (describes_of (P.grammar self.now.inner.now)) self.now.info.now message
             state.old result state.new }
     {
         match self.info.look(state) {
@@ -107,7 +107,7 @@ impl<T: Drop, P: Parser<T>> Run<'_, T, P> {
     /// The help page at the path of a state, in full or not; or want of memory for it.
     fn help(&self, state: &State, full: bool) -> ParseFailure
         requires { P.can_eval self.now.inner.now }
-        ensures { ShowsHelp (P.describes self.now.inner.now) self.now.info.now full state.now
+        ensures { ShowsHelp (describes_of (P.grammar self.now.inner.now)) self.now.info.now full state.now
             result }
     {
         let Ok(meta) = self.inner.meta(self.alloc) else {

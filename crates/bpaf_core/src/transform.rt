@@ -1,8 +1,6 @@
 //! What closures make of a parser's value, and the checks that they do.
-ghost use Rattle.bpaf_laws.specs.Laws.{IsNotMemory, WithoutMemory};
-ghost use Rattle.bpaf_laws.specs.Combinators.{MapOutcome, MapReads, ParseOutcome, GuardOutcome};
-ghost use Rattle.bpaf_laws.proofs.CombinatorLaws.{map_lawful, parse_lawful, guard_lawful};
-ghost use Rattle.std.specs.{Prelude.Ok, Prelude.◌≡◌, Prelude.true, Fn.FnReturnsAt};
+ghost use Rattle.bpaf_grammar.specs.Grammar.{mapped, parsed, guarded, closed};
+ghost use Rattle.std.specs.{Prelude.Ok, Fn.FnReturnsAt};
 
 use crate::parser::Parser;
 use bpaf_doc::{Meta, Text};
@@ -25,24 +23,9 @@ pub struct ParseMap<T, P, F, R> {
 impl<T, R, P: Parser<T>, F: Fn(T) -> R> Parser<R> for ParseMap<T, P, F, R> {
     ghost can_eval = { λ p. P.can_eval p.inner × F.IsAlwaysCallable p.map_fn };
 
-    ghost describes = { λ p. P.describes p.inner };
+    ghost grammar = { λ p. closed (mapped (λ x y. F.post p.map_fn x y)) (P.grammar p.inner) };
 
-    ghost shorts = { λ p. P.shorts p.inner };
-
-    ghost reads = { λ p. MapReads T R (P.reads p.inner) (λ x y. F.post p.map_fn x y) };
-
-    ghost outcome = { λ p. MapOutcome (P.outcome p.inner) (λ x y. F.post p.map_fn x y) };
-
-    fn eval(&self, state: &mut State) -> Result<R, Error>
-        requires inner { P.can_eval self.now.inner }
-        requires callable { F.IsAlwaysCallable self.now.map_fn }
-        ensures outcome { MapOutcome (P.outcome self.now.inner) (λ x y. F.post self.now.map_fn x y)
-            state.old result state.new }
-        ensures memory_is_never_caught { IsNotMemory result →
-            MapOutcome (WithoutMemory (P.outcome self.now.inner))
-            (λ x y. F.post self.now.map_fn x y)
-            state.old result state.new }
-    {
+    fn eval(&self, state: &mut State) -> Result<R, Error> {
         let value = self.inner.eval(state)?;
         Ok((self.map_fn)(value))
     }
@@ -50,10 +33,6 @@ impl<T, R, P: Parser<T>, F: Fn(T) -> R> Parser<R> for ParseMap<T, P, F, R> {
     fn meta(&self, alloc: Global) -> Result<Meta, AllocError> {
         self.inner.meta(alloc)
     }
-
-    ghost lawful = { λ p. map_lawful (P.lawful p.inner) (λ x y. F.post p.map_fn x y) };
-
-    ghost shows = { λ p. P.shows p.inner };
 }
 
 /// A closure's value on the inner value, or its fault (bpaf's `ParseWith`, in `structs.rs`).
@@ -72,26 +51,10 @@ impl<T, R, E: Display + Drop, P: Parser<T>, F: Fn(T) -> Result<R, E>> Parser<R>
     for ParseWith<T, P, F, E, R> {
     ghost can_eval = { λ p. P.can_eval p.inner × F.IsAlwaysCallable p.parse_fn };
 
-    ghost describes = { λ p. P.describes p.inner };
+    ghost grammar = { λ p.
+        closed (parsed (λ x y. F.post p.parse_fn x y) E.output) (P.grammar p.inner) };
 
-    ghost shorts = { λ p. P.shorts p.inner };
-
-    ghost reads = { λ p. MapReads T R (P.reads p.inner) (λ x y. F.post p.parse_fn x (Ok y)) };
-
-    ghost outcome = { λ p.
-        ParseOutcome (P.outcome p.inner) (λ x y. F.post p.parse_fn x y) E.output };
-
-    fn eval(&self, state: &mut State) -> Result<R, Error>
-        requires inner { P.can_eval self.now.inner }
-        requires callable { F.IsAlwaysCallable self.now.parse_fn }
-        ensures outcome { ParseOutcome (P.outcome self.now.inner)
-            (λ x y. F.post self.now.parse_fn x y) E.output
-            state.old result state.new }
-        ensures memory_is_never_caught { IsNotMemory result →
-            ParseOutcome (WithoutMemory (P.outcome self.now.inner))
-            (λ x y. F.post self.now.parse_fn x y) E.output
-            state.old result state.new }
-    {
+    fn eval(&self, state: &mut State) -> Result<R, Error> {
         let value = self.inner.eval(state)?;
         match (self.parse_fn)(value) {
             Ok(value) => Ok(value),
@@ -105,10 +68,6 @@ impl<T, R, E: Display + Drop, P: Parser<T>, F: Fn(T) -> Result<R, E>> Parser<R>
     fn meta(&self, alloc: Global) -> Result<Meta, AllocError> {
         self.inner.meta(alloc)
     }
-
-    ghost lawful = { λ p. parse_lawful (P.lawful p.inner) (λ x y. F.post p.parse_fn x y) E.output };
-
-    ghost shows = { λ p. P.shows p.inner };
 }
 
 /// The inner value, where a check is true of it (bpaf's `ParseGuard`, in `structs.rs`).
@@ -125,27 +84,10 @@ pub struct ParseGuard<'m, P, F> {
 impl<'m, T: Drop, P: Parser<T>, F: Fn(&T) -> bool> Parser<T> for ParseGuard<'m, P, F> {
     ghost can_eval = { λ p. P.can_eval p.inner × F.IsAlwaysCallable p.check };
 
-    ghost describes = { λ p. P.describes p.inner };
+    ghost grammar = { λ p.
+        closed (guarded (FnReturnsAt F.Fn p.check) p.message.now) (P.grammar p.inner) };
 
-    ghost shorts = { λ p. P.shorts p.inner };
-
-    ghost reads = { λ p. MapReads T T (P.reads p.inner)
-        (λ x v. (v ≡ x) × FnReturnsAt F.Fn p.check x true) };
-
-    ghost outcome = { λ p.
-        GuardOutcome (P.outcome p.inner) (FnReturnsAt F.Fn p.check) p.message.now };
-
-    fn eval(&self, state: &mut State) -> Result<T, Error>
-        requires inner { P.can_eval self.now.inner }
-        requires callable { F.IsAlwaysCallable self.now.check }
-        ensures outcome { GuardOutcome (P.outcome self.now.inner) (FnReturnsAt F.Fn self.now.check)
-            self.now.message.now
-            state.old result state.new }
-        ensures memory_is_never_caught { IsNotMemory result →
-            GuardOutcome (WithoutMemory (P.outcome self.now.inner))
-            (FnReturnsAt F.Fn self.now.check) self.now.message.now
-            state.old result state.new }
-    {
+    fn eval(&self, state: &mut State) -> Result<T, Error> {
         let value = self.inner.eval(state)?;
         if (self.check)(&value) {
             Ok(value)
@@ -157,9 +99,4 @@ impl<'m, T: Drop, P: Parser<T>, F: Fn(&T) -> bool> Parser<T> for ParseGuard<'m, 
     fn meta(&self, alloc: Global) -> Result<Meta, AllocError> {
         self.inner.meta(alloc)
     }
-
-    ghost lawful = { λ p.
-        guard_lawful (P.lawful p.inner) (FnReturnsAt F.Fn p.check) p.message.now };
-
-    ghost shows = { λ p. P.shows p.inner };
 }

@@ -1,7 +1,5 @@
 //! Parsers that answer as the inner one does, and are shown otherwise.
-ghost use Rattle.bpaf_laws.specs.Combinators.{UsageDescribes, SectionDescribes, TitledDescribes};
-ghost use Rattle.bpaf_laws.specs.Laws.{IsNotMemory, WithoutMemory};
-ghost use Rattle.bpaf_laws.proofs.ShownNames.{usage_shows, section_shows, titled_shows};
+ghost use Rattle.bpaf_grammar.specs.Grammar.{dressed, usage, section, titled};
 
 use crate::parser::Parser;
 use bpaf_doc::{Doc, Meta, MetaInfo};
@@ -20,20 +18,9 @@ pub struct ParseUsage<P> {
 impl<T, P: Parser<T>> Parser<T> for ParseUsage<P> {
     ghost can_eval = { λ p. P.can_eval p.inner };
 
-    ghost describes = { λ p. UsageDescribes (P.describes p.inner) p.usage };
+    ghost grammar = { λ p. dressed (usage p.usage) (P.grammar p.inner) };
 
-    ghost shorts = { λ p. P.shorts p.inner };
-
-    ghost reads = { λ p. P.reads p.inner };
-
-    ghost outcome = { λ p. P.outcome p.inner };
-
-    fn eval(&self, state: &mut State) -> Result<T, Error>
-        requires { P.can_eval self.now.inner }
-        ensures outcome { P.outcome self.now.inner state.old result state.new }
-        ensures memory_is_never_caught { IsNotMemory result →
-            WithoutMemory (P.outcome self.now.inner) state.old result state.new }
-    {
+    fn eval(&self, state: &mut State) -> Result<T, Error> {
         self.inner.eval(state)
     }
 
@@ -42,10 +29,6 @@ impl<T, P: Parser<T>> Parser<T> for ParseUsage<P> {
         let usage = Doc::copy_of(&self.usage)?.unwrap_or(Doc::new(alloc));
         Ok(Meta::CustomUsage(inner, usage))
     }
-
-    ghost lawful = { λ p. P.lawful p.inner };
-
-    ghost shows = { λ p. usage_shows (P.shows p.inner) p.usage };
 }
 
 /// A parser that is shown in a section of its own (bpaf's `ParseGroupHelp`, in `structs.rs`).
@@ -60,20 +43,9 @@ pub struct ParseGroupHelp<P> {
 impl<T, P: Parser<T>> Parser<T> for ParseGroupHelp<P> {
     ghost can_eval = { λ p. P.can_eval p.inner };
 
-    ghost describes = { λ p. SectionDescribes (P.describes p.inner) p.message };
+    ghost grammar = { λ p. dressed (section p.message) (P.grammar p.inner) };
 
-    ghost shorts = { λ p. P.shorts p.inner };
-
-    ghost reads = { λ p. P.reads p.inner };
-
-    ghost outcome = { λ p. P.outcome p.inner };
-
-    fn eval(&self, state: &mut State) -> Result<T, Error>
-        requires { P.can_eval self.now.inner }
-        ensures outcome { P.outcome self.now.inner state.old result state.new }
-        ensures memory_is_never_caught { IsNotMemory result →
-            WithoutMemory (P.outcome self.now.inner) state.old result state.new }
-    {
+    fn eval(&self, state: &mut State) -> Result<T, Error> {
         self.inner.eval(state)
     }
 
@@ -81,10 +53,6 @@ impl<T, P: Parser<T>> Parser<T> for ParseGroupHelp<P> {
         let inner = Box::new(alloc, self.inner.meta(alloc)?)?;
         Ok(Meta::Subsection(inner, self.message.copy()?))
     }
-
-    ghost lawful = { λ p. P.lawful p.inner };
-
-    ghost shows = { λ p. section_shows (P.shows p.inner) p.message };
 }
 
 /// A parser that is shown in a section of its own, below what a closure answers on what is shown
@@ -100,22 +68,10 @@ impl<T, P: Parser<T>, F: Fn(MetaInfo<'_>) -> Result<Doc, AllocError>> Parser<T>
     for ParseWithGroupHelp<P, F> {
     ghost can_eval = { λ p. P.can_eval p.inner × F.IsAlwaysCallable p.f };
 
-    ghost describes = { λ p.
-        TitledDescribes (P.describes p.inner) (λ info title. F.post p.f info title) };
+    ghost grammar = { λ p.
+        dressed (titled (λ info title. F.post p.f info title)) (P.grammar p.inner) };
 
-    ghost shorts = { λ p. P.shorts p.inner };
-
-    ghost reads = { λ p. P.reads p.inner };
-
-    ghost outcome = { λ p. P.outcome p.inner };
-
-    fn eval(&self, state: &mut State) -> Result<T, Error>
-        requires inner { P.can_eval self.now.inner }
-        requires callable { F.IsAlwaysCallable self.now.f }
-        ensures outcome { P.outcome self.now.inner state.old result state.new }
-        ensures memory_is_never_caught { IsNotMemory result →
-            WithoutMemory (P.outcome self.now.inner) state.old result state.new }
-    {
+    fn eval(&self, state: &mut State) -> Result<T, Error> {
         self.inner.eval(state)
     }
 
@@ -124,9 +80,4 @@ impl<T, P: Parser<T>, F: Fn(MetaInfo<'_>) -> Result<Doc, AllocError>> Parser<T>
         let title = (self.f)(MetaInfo::new(&inner))?;
         Ok(Meta::Subsection(Box::new(alloc, inner)?, title))
     }
-
-    ghost lawful = { λ p. P.lawful p.inner };
-
-    ghost shows = { λ p. titled_shows (P.shows p.inner)
-        (λ info title. F.post p.f info title) };
 }

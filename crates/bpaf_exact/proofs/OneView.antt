@@ -1,14 +1,16 @@
 -- Where closures can't tell apart what looks alike they agree, and a line's values look alike.
-use Rattle.std.proofs.Common.{Option, arith, subst, Bool, List, refl, map, ◌∷◌, ◌≡◌, sym, ◌∙◌}
-use Rattle.std.proofs.Common.{[], ap, ℕ}
-use Rattle.std.specs.{Option.IsSomeRelated, Prelude.option_map, Global.Vec}
+use Rattle.std.proofs.Common.{Option, arith, subst, Bool, List, refl, map, ◌∷◌, ◌≡◌, sym, ◌∙◌, true}
+use Rattle.std.proofs.Common.{[], ap, ℕ, false, inl, inr, not, ◌&&◌, ◌++◌, ◌||◌}
+use Rattle.std.proofs.lemmas.List.{map-append}
+use Rattle.std.specs.{Option.IsSomeRelated, Prelude.MatchBool, Prelude.option_map}
 use Rattle.bpaf_base.specs.Items.{item_text}
 use Rattle.bpaf_doc.specs.Names.{Names}
 use Rattle.bpaf_text.specs.{Named.KeyWithValue, Named.Named as Key, Meaning.SpellsUnsigned}
-use Rattle.bpaf_laws.specs.Reading.{Outcome}
-use Rattle.bpaf_exact.proofs.ProgramForm.{whole_law}
+use Rattle.bpaf_laws.specs.{Command.Called, Command.opening_words, Reading.Outcome}
+use Rattle.bpaf_exact.proofs.ProgramForm.{whole_law, words_apart}
 use Rattle.bpaf_exact.proofs.{Cuts.one_take, Cuts.one_cut, Wrappers.alternative_single}
-use Rattle.bpaf_exact.proofs.{Commands.none_opens, Leaves.last_same, Repeat.own_nil}
+use Rattle.bpaf_exact.proofs.{Commands.none_opens, Commands.opens_apart, Leaves.last_same}
+use Rattle.bpaf_exact.proofs.{Programs.opens_one, Repeat.own_nil}
 use Rattle.bpaf_exact.specs.ProgramForm.{program_alone, argument_field, flag_field, program_closed}
 use Rattle.bpaf_exact.specs.ProgramForm.{ArgumentValue, program_field, program_both, program_con}
 use Rattle.bpaf_exact.specs.ProgramForm.{whole_value, ProgramForm, word_by}
@@ -17,10 +19,13 @@ use Rattle.bpaf_exact.specs.ProgramForm.{WordValue, key_field, completed, comman
 use Rattle.bpaf_exact.specs.ProgramForm.{program_optional, before_commands, complete, product}
 use Rattle.bpaf_exact.specs.Flat.{SingleValue, ClosedValue, SingleLaw, FieldKind, Gap, Variables}
 use Rattle.bpaf_exact.specs.Flat.{own_none, own_more, repeated, AgreesOn, FrontOf, Own}
-use Rattle.bpaf_exact.specs.Flat.{FallbackValue, OptionalValue, list_closure, OwnList, Closure}
-use Rattle.bpaf_exact.specs.Flat.{Decides, Groups, ByName}
-use Rattle.bpaf_exact.specs.ProgramForm.{FormLaw, single, Agrees}
-use Rattle.bpaf_exact.specs.Pieces.{LinePiece, Cells, Roles, One, Two}
+use Rattle.bpaf_exact.specs.Flat.{FallbackValue, OptionalValue, OwnList, Closure}
+use Rattle.bpaf_exact.specs.Flat.{Decides, Groups, ByName, LastOf, either_value}
+use Rattle.bpaf_exact.specs.ProgramForm.{FormLaw, single, Agrees, ChoiceValue, CommandValue}
+use Rattle.bpaf_exact.specs.ProgramForm.{are_plain, are_words_apart, is_program, program_choice}
+use Rattle.bpaf_exact.specs.ProgramForm.{program_command, WordsApart}
+use Rattle.bpaf_exact.specs.Pieces.{LinePiece, Cells, Roles, One, Two, are_all_apart, either}
+use Rattle.bpaf_exact.specs.Pieces.{is_own}
 use Rattle.bpaf_exact.specs.Says.{HasOneView, pair_view, OneGroup, Respects, Alike}
 
 -- Closures.
@@ -103,7 +108,7 @@ pub word_view : (T X : Type 0) (see : T → X) (accepts : Bool → Bool) (means 
 word_view T X see accepts means u = (front_view _ (word_piece accepts u), λ v w a b. absurd a)
 
 -- where a test holds
-if_view : {T X : Type 0} (see : T → X) (s : ProgramForm T) (b : Bool) → HasOneView see s
+pub if_view : {T X : Type 0} (see : T → X) (s : ProgramForm T) (b : Bool) → HasOneView see s
     → HasOneView see (program_if b s)
 if_view see s b u = grind arith
 
@@ -149,7 +154,7 @@ module _ {env : Variables} {T X : Type 0} {see : T → X} {inner : Outcome T} (k
 module _ {env : Variables} {T X : Type 0} {inner : Outcome T} {names : List Names}
     {words : List (List ℕ)} (see : T → X) where
   -- a repeat or default round a field, all values of which look alike
-  whole_view : {B Y : Type 0} {s : ProgramForm T} (look : B → Y) (kind : FieldKind → FieldKind)
+  pub whole_view : {B Y : Type 0} {s : ProgramForm T} (look : B → Y) (kind : FieldKind → FieldKind)
       (value : Groups T → Gap T → List LinePiece → B → Type 0)
       → ((k : FieldKind) (q : Roles) (group : Groups T) (gap : Gap T) → SingleLaw env T inner k q
       group gap → OneGroup see group → Alike see gap.absent → (os : List LinePiece)
@@ -177,17 +182,16 @@ module _ {env : Variables} {T X : Type 0} {inner : Outcome T} {names : List Name
       → HasOneView see (program_field s)
   field_view l u = grind (arith, whole_view, value_view)
 
-  -- many, as the program keeps it
-  pub many_view : {s : ProgramForm T} → FormLaw env inner names words s → HasOneView see s
-      → HasOneView (λ values. map see values.items)
-      (program_closed (list_closure T) (completed repeated (OwnList T) s))
-  many_view {s} l u =
-      closed_view (List T) (Vec T) (List X) (List X) (map see) (λ values. map see values.items)
-      (list_closure T) (record {
-        same = λ x y v w e f g. ap (map see) f ∙ (e ∙ sym (ap (map see) g));
-        apart = λ x y v e f n. n;
-      }) (completed repeated (OwnList T) s)
-      (whole_view (map see) repeated (OwnList T) list_view l u)
+  -- the last of a repeat
+  pub last_view : {s : ProgramForm T} → FormLaw env inner names words s → HasOneView see s
+      → HasOneView see (completed repeated (LastOf T) s)
+  last_view = whole_view see repeated (LastOf T) (λ k q group gap l one absent os v w a b.
+      last_seen a.0 b.0 (list_view k q group gap l one absent os _ _ a.1 b.1))
+    where
+      last_seen : {v w : T} (vs ws : List T) → map see (vs ++ v ∷ []) ≡ map see (ws ++ w ∷ [])
+          → see v ≡ see w
+      last_seen {v} {w} vs ws same = last_same (map see vs) (map see ws)
+          (sym (map-append see vs (v ∷ [])) ∙ (same ∙ map-append see ws (w ∷ [])))
 
 -- Products.
 
@@ -221,6 +225,55 @@ module _ {T X : Type 0} (see : T → X) where
       by_whole (product wide named q fields) l u = grind (arith, one_cut)
       by_whole (before_commands value) l u = u
       by_whole _ l u = λ cs v w a b. absurd a
+
+-- Commands and choices.
+
+-- of either that a test picks
+either_seen : {T X : Type 0} {see : T → X} {p r : T → Type 0} (b : Bool) → Alike see p
+    → Alike see r → Alike see (λ v. MatchBool b (p v) (r v))
+either_seen true one other = one
+either_seen false one other = other
+
+-- where a test holds, what it says is known
+where_view : {T X : Type 0} (see : T → X) (s : ProgramForm T) (b : Bool)
+    → (b ≡ true → HasOneView see s) → HasOneView see (program_if b s)
+where_view see s true u = u refl
+where_view see s false u = tt
+
+-- a command over a program
+pub command_view : {env : Variables} {T X : Type 0} {inner : Outcome T} {names : List Names}
+    {words : List (List ℕ)} (see : T → X) (adjacent apart : Bool) (called : Called)
+    (s : ProgramForm T) → FormLaw env inner names words s → HasOneView see s
+    → HasOneView see (program_command adjacent apart called s)
+command_view {T} see adjacent apart called s law one =
+    let opening = opening_words called in
+    if_view see (commands false (CommandValue T opening (program_value s)))
+    (((not adjacent && apart) && are_plain opening) && is_program s)
+    (λ cs v w a b. values_look_one see law one b.0 v w
+    (subst (λ ds. program_value s ds v) (opens_one opening a.1 b.1) a.2) b.2)
+
+-- one of two, of which only one can have the value
+pub choice_view : {env : Variables} {T X : Type 0} (see : T → X) {a b : Outcome T}
+    {own others : List Names} {words more : List (List ℕ)} (s t : ProgramForm T)
+    → FormLaw env a own words s → FormLaw env b others more t → HasOneView see s
+    → HasOneView see t → HasOneView see (program_choice own others words more s t)
+choice_view see {own = own} {others = others} (alternative wide q x) (alternative other r y) first
+    second one two = if_view see
+    (alternative (wide || other) (either q r) (either_value q x y)) (are_all_apart own others)
+    (λ o. either_seen (is_own q o) (one o) (two o))
+choice_view {T = T} see {words = words} {more = more} (commands false x) (commands false y) first
+    second one two = where_view see (commands false (ChoiceValue T x y))
+    (are_words_apart words more) (λ apart cs v w. by_value cs v w (words_apart words more apart))
+  where
+    by_value : (cs : Cells) (v w : T) → WordsApart words more → ChoiceValue T x y cs v
+        → ChoiceValue T x y cs w → see v ≡ see w
+    by_value cs v w apart (inl a) (inl b) = one cs v w a b
+    by_value cs v w apart (inr a) (inr b) = two cs v w a b
+    by_value cs v w apart (inl a) (inr b) = absurd (opens_apart words more apart
+        (first.by.commands.opened cs v a).1 (second.by.commands.opened cs w b).1)
+    by_value cs v w apart (inr a) (inl b) = absurd (opens_apart words more apart
+        (first.by.commands.opened cs w b).1 (second.by.commands.opened cs v a).1)
+choice_view see s t first second one two = tt
 
 -- a closure that accepts both or refuses both of what looks alike
 module _ {A B X : Type 0} {see : A → X} {f : Closure A B}

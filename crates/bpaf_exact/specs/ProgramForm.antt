@@ -285,11 +285,6 @@ Agrees f (product wide named q fields) = (os : List LinePiece) → AgreesOn (fie
 Agrees f (commands optional value) = (cs : Cells) → AgreesOn (value cs) f
 Agrees f _ = Unit {0}
 
--- the premises of all parsers of a list
-abbrev pub EachAgrees : {P : Type 0} → (P → Type 0) → List P → Type 0
-EachAgrees agrees [] = Unit {0}
-EachAgrees agrees (p ∷ ps) = agrees p × EachAgrees agrees ps
-
 -- a form where a test holds
 abbrev pub program_if : {T : Type 0} → Bool → ProgramForm T → ProgramForm T
 program_if true s = s

@@ -12,7 +12,7 @@ use Rattle.bpaf_laws.proofs.ShownNames.{both_show, flag_shows, last_shows, one_s
 use Rattle.bpaf_laws.proofs.{ProductLaws.both_lawful, LeafLaws.flag_lawful}
 use Rattle.bpaf_laws.specs.Product.{BothReads}
 use Rattle.bpaf_laws.specs.Leaves.{FlagOutcome, IsPresent, IsFlagAbsent}
-use Rattle.bpaf_laws.specs.Laws.{ShowsNames, of_flags, shorts_of, NamesAnswer, Keeps, Lawful, Reads}
+use Rattle.bpaf_laws.specs.Laws.{ShowsNames, of_flags, shorts_among, NamesAnswer, Keeps, Lawful, Reads}
 use Rattle.bpaf_keys.specs.Info.{ExtraOutcome, ExtraReads, IsNoVersion, SwitchReads, extra_shape}
 use Rattle.bpaf_keys.specs.Info.{extra_shape_of, help, neither, no_memory, version, RunInfo}
 use Rattle.bpaf_keys.specs.Info.{IsNotAsked, LooksForVersion}
@@ -94,7 +94,7 @@ pub extra_shows : (info : RunInfo) → ShowsNames (λ shape. shape ≡ extra_sha
 extra_shows info = one_shape (of_version info.version info.help_arg info.version_arg)
   where
     of_version : (version : Option (List Piece)) (first second : Named)
-        → shorts_of (parts (extra_shape_of version first second))
+        → shorts_among (parts (extra_shape_of version first second))
         ≡ of_flags (option_map_or (λ text. first.names.shorts ++ second.names.shorts) version
         first.names.shorts)
     of_version None first second = (flag_shows {T = Bool} first None).each _ refl

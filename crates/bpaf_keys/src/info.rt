@@ -8,7 +8,7 @@ ghost use Rattle.bpaf_pages.specs.{Help.help_text, InsideHelp.given_by};
 ghost use Rattle.bpaf_keys.specs.Info.{ExtraOutcome, IsNotAsked, LooksForVersion, extra_shape};
 ghost use Rattle.bpaf_keys.specs.Info.{key_shape, help_key, page_texts, plain_info, short_descr};
 ghost use Rattle.bpaf_keys.specs.Info.{usual_key, version_key, known_names};
-ghost use Rattle.bpaf_laws.specs.Laws.{shorts_of, ShowsVersion, version_text};
+ghost use Rattle.bpaf_laws.specs.Laws.{shorts_among, ShowsVersion, version_text};
 ghost use Rattle.bpaf_line.specs.Situation.{open_count};
 
 use crate::environment::is_present;
@@ -240,7 +240,7 @@ impl Info {
         alloc: Global,
         meta: &Meta,
     ) -> Result<(Vec<char>, Vec<char>), AllocError>
-        ensures { IfOk result (λ r. let names = (known_names self.now (shorts_of
+        ensures { IfOk result (λ r. let names = (known_names self.now (shorts_among
             (parts (shape_of meta.now)))).names in (r.0.items ≡ names.flags)
             × (r.1.items ≡ names.arguments)) }
     {

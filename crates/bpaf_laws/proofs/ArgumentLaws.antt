@@ -326,7 +326,7 @@ module _ {T : Type 0} (means : List ℕ → T → Type 0) (argument : KeyWithVal
   by_key text gets A B of_key of_variable = grind (arith, true≢false, counted)
 
   -- so it is with a text at fault
-  fault_first : (text : List ℕ) (m : Message) → GetsText argument s text t
+  pub fault_first : (text : List ℕ) (m : Message) → GetsText argument s text t
       → FaultsText means text t.current m → FailsKeyFirst means argument s m
   fault_first text m gets fault = grind (arith, by_key, counted)
 

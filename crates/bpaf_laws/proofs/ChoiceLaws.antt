@@ -1,19 +1,18 @@
 -- Choices keep to the laws where their branches do, catch no want of memory; the leftmost wins.
 use Rattle.std.proofs.Common.{true≢false, Result, Option, false, arith, Bool, true, Some, None, ◌≡◌}
-use Rattle.std.proofs.Common.{List, refl, ◌++◌, ◌&&◌, IsOk, Err, sym, inl, inr, ◌∷◌, not, ◌∙◌, ◌⊎◌}
+use Rattle.std.proofs.Common.{refl, ◌&&◌, IsOk, Err, sym, inl, inr, not, ◌∙◌, ◌⊎◌}
 use Rattle.std.proofs.lemmas.Bool.{and_parts, cases_cond}
-use Rattle.std.proofs.{Common.Ok, Common.[], Common.ap, Common.ℕ, lemmas.Bool.Decides.nat_tests}
-use Rattle.bpaf_doc.specs.Shape.{Shape}
+use Rattle.std.proofs.{Common.Ok, Common.ap, Common.ℕ, lemmas.Bool.Decides.nat_tests}
 use Rattle.bpaf_line.specs.Taking.{ConflictsSaved, TakeTheSame, IsLeftmost, IsWinner}
 use Rattle.bpaf_line.specs.{declared.error.Error.Error, Situation.Situation, Messages.Combines}
 use Rattle.bpaf_laws.proofs.Keeping.{AnswersLawfully, reads_conflicts, LawfulAnswer, same_took_none}
 use Rattle.bpaf_laws.proofs.Keeping.{lawful_answer, names_want, keeps_refl, keeps_same, lawful_by}
-use Rattle.bpaf_laws.proofs.{Keeping.reads_as, Keeping.names_same, LeafLaws.refusal_lawful}
-use Rattle.bpaf_laws.specs.Choice.{ChoiceDescribes, TookAndIsChosen, AnsweredBranch, ChoicesOutcome}
-use Rattle.bpaf_laws.specs.Choice.{ChoiceOutcome, ValueOfWinner, LeftmostOfAll, BranchesEval, depth}
-use Rattle.bpaf_laws.specs.Choice.{ChoicesReads, either_shape, LeftmostWins, EqualDepths, branch_of}
-use Rattle.bpaf_laws.specs.Choice.{ChoiceReads, no_choice, IsChosen, is_want, Winner, Chosen}
-use Rattle.bpaf_laws.specs.Choice.{Nested, IsWant, Stands}
+use Rattle.bpaf_laws.proofs.{Keeping.reads_as, Keeping.names_same}
+use Rattle.bpaf_laws.specs.Choice.{TookAndIsChosen, AnsweredBranch}
+use Rattle.bpaf_laws.specs.Choice.{ChoiceOutcome, ValueOfWinner, BranchesEval, depth}
+use Rattle.bpaf_laws.specs.Choice.{LeftmostWins, EqualDepths, branch_of}
+use Rattle.bpaf_laws.specs.Choice.{ChoiceReads, IsChosen, is_want, Winner, Chosen}
+use Rattle.bpaf_laws.specs.Choice.{IsWant, Stands}
 use Rattle.bpaf_laws.specs.Laws.{WithoutMemory, IsNotMemory, Lawful, Spares}
 use Rattle.bpaf_laws.specs.{Reading.Readings, Reading.Outcome, Combinators.is_untouched}
 
@@ -74,23 +73,6 @@ module _ {T : Type 0} {first second : Outcome T} {rf rs : Readings T} (lf : Lawf
       answers s (Err e) t (inl o) = evaluated s (Err e) t o
       answers s (Err e) t (inr want) = (keeps_same s t want.1, names_want _ e.0 want.0)
 
--- a choice of a lawful outcome and of lawful parsers is lawful
-pub from_lawful : {T P : Type 0} (outcome : P → Outcome T) (reads : P → Readings T)
-    (before : Outcome T) (read : Readings T) (ps : List P)
-    → ((p : P) → Lawful T (outcome p) (reads p)) → Lawful T before read
-    → Lawful T (Nested ChoiceOutcome outcome before ps) (Nested ChoiceReads reads read ps)
-from_lawful outcome reads before read [] each law = law
-from_lawful outcome reads before read (p ∷ ps) each law =
-    from_lawful outcome reads (ChoiceOutcome before (outcome p)) (ChoiceReads read (reads p)) ps
-    each (choice_lawful law (each p))
-
--- so is a choice of lawful parsers alone
-pub choices_lawful : {T P : Type 0} (outcome : P → Outcome T) (reads : P → Readings T) (ps : List P)
-    → ((p : P) → Lawful T (outcome p) (reads p))
-    → Lawful T (ChoicesOutcome outcome ps) (ChoicesReads reads ps)
-choices_lawful outcome reads [] each = refusal_lawful no_choice
-choices_lawful outcome reads (p ∷ ps) each = grind (arith, from_lawful)
-
 -- A choice of two: what its evaluation shows, and that it catches no want of memory.
 
 -- where both branches ran and wanted no memory, the choice gives the chosen answer, or wants some
@@ -148,47 +130,6 @@ pub second_wins : {T : Type 0} (first second : AnsweredBranch T) (place : ℕ) (
 second_wins first second place t winner saved =
     let left = leftmost_of_other second.left first.left place winner.0 in
     ((false, Some place), (left, left.differs ∙ ap not winner.1), (refl, saved))
-
--- one more parser at the end
-nested_more : {A : Type 1} {P : Type 0} (choice : A → A → A) (meaning : P → A) (before : A)
-    (ps : List P) (p : P)
-    → Nested choice meaning before (ps ++ p ∷ []) ≡ choice (Nested choice meaning before ps)
-    (meaning p)
-nested_more choice meaning before [] p = refl
-nested_more choice meaning before (q ∷ ps) p =
-    nested_more choice meaning (choice before (meaning q)) ps p
-
--- one more parser's answer
-pub one_more : {T P : Type 0} (outcome : P → Outcome T) (before : Outcome T) (ps : List P) (p : P)
-    (s : Situation) (r : Result T Error) (t : Situation)
-    → ChoiceOutcome (Nested ChoiceOutcome outcome before ps) (outcome p) s r t
-    → Nested ChoiceOutcome outcome before (ps ++ p ∷ []) s r t
-one_more outcome before ps p s r t chosen = grind (arith, nested_more)
-
--- one more parser is shown
-pub one_more_shown : {P : Type 0} (describes : P → Shape → Type 0) (before : Shape → Type 0)
-    (ps : List P) (p : P) (a b shape : Shape)
-    → Nested ChoiceDescribes describes before ps a → describes p b → shape ≡ either_shape a b
-    → Nested ChoiceDescribes describes before (ps ++ p ∷ []) shape
-one_more_shown describes before ps p a b shape first last is = grind (arith, nested_more)
-
--- fewer answers of parsers that aren't want of memory give fewer of a choice of many
-nested_spares : {T P : Type 0} (outcome without : P → Outcome T) (before less : Outcome T)
-    (ps : List P) → Spares before less → ((p : P) → Spares (outcome p) (without p))
-    → Spares (Nested ChoiceOutcome outcome before ps) (Nested ChoiceOutcome without less ps)
-nested_spares outcome without before less [] fewer each = fewer
-nested_spares outcome without before less (p ∷ ps) fewer each =
-    nested_spares outcome without (ChoiceOutcome before (outcome p))
-    (ChoiceOutcome less (without p)) ps
-    (λ s t r ran spared.
-    choice_within before (outcome p) less (without p) fewer (each p) s t r ran) each
-
--- so a choice of any number catches no want of memory
-pub choices_spared : {T P : Type 0} (outcome : P → Outcome T) (ps : List P) (s t : Situation)
-    (r : Result T Error) → ChoicesOutcome outcome ps s r t → IsNotMemory r
-    → ChoicesOutcome (λ p. WithoutMemory (outcome p)) ps s r t
-choices_spared outcome [] s t r o spared = o
-choices_spared outcome (p ∷ ps) s t r o spared = grind (arith, nested_spares)
 
 -- The leftmost place that only one of two branches took belongs to the chosen one.
 
@@ -276,42 +217,3 @@ module _ {T : Type 0} {first second : Outcome T} {first_reads second_reads : Rea
         leftmost = λ one other depths. (chosen one other depths).0;
         else_first = λ one other depths. (chosen one other depths).1;
       }
-
--- one choice more in which the leftmost wins
-choice_leftmost : {T : Type 0} {before second : Outcome T} {before_reads second_reads : Readings T}
-    (less : Outcome T) → Lawful T before before_reads → Lawful T second second_reads
-    → ((s t : Situation) (r : Result T Error) → before s r t → less s r t) → (s t : Situation)
-    (r : Result T Error) → ChoiceOutcome before second s r t → LeftmostWins less second s r t
-choice_leftmost {before = before} {second = second} less before_law second_law within s t (Err e)
-    ran = choice_within before second less second (λ s t r ran spared. within s t r ran)
-    (λ s t r ran spared. ran) s t (Err e) ran
-choice_leftmost {before = before} {second = second} less before_law second_law within s t (Ok v)
-    ran =
-    let chosen = leftmost_is_chosen before_law second_law s t (Ok v) ran in
-    record {
-      ran = branches_within before second less second (λ s t r ran spared. within s t r ran)
-          (λ s t r ran spared. ran) s t (Ok v) chosen.ran;
-      leftmost = chosen.leftmost;
-      else_first = chosen.else_first;
-    }
-
-module _ {T P : Type 0} (outcome : P → Outcome T) (reads : P → Readings T)
-    (laws : (p : P) → Lawful T (outcome p) (reads p)) where
-  -- so it is in each of the later choices
-  from_leftmost : {before : Outcome T} {before_reads : Readings T} (less : Outcome T)
-      → Lawful T before before_reads → (ps : List P)
-      → ((s t : Situation) (r : Result T Error) → before s r t → less s r t)
-      → (s t : Situation) (r : Result T Error) → Nested ChoiceOutcome outcome before ps s r t
-      → Nested LeftmostWins outcome less ps s r t
-  from_leftmost less before_law [] within s t r ran = within s t r ran
-  from_leftmost {before = before} {before_reads = before_reads} less before_law (p ∷ ps) within s t
-      r ran =
-      from_leftmost {before = ChoiceOutcome before (outcome p)}
-      {before_reads = ChoiceReads before_reads (reads p)} (LeftmostWins less (outcome p))
-      (choice_lawful before_law (laws p)) ps
-      (λ m n a ran. choice_leftmost less before_law (laws p) within m n a ran) s t r ran
-
-  -- and in the choice of all parsers
-  pub choices_leftmost : (ps : List P) (s t : Situation) (r : Result T Error)
-      → ChoicesOutcome outcome ps s r t → LeftmostOfAll outcome ps s r t
-  choices_leftmost xs s t r ran = grind (arith, from_leftmost)

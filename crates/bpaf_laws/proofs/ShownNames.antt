@@ -9,20 +9,20 @@ use Rattle.bpaf_doc.specs.Shape.{Subsection, shapes_of, Adjacent, Optional, Requ
 use Rattle.bpaf_doc.specs.{declared.meta.MetaInfo.MetaInfo, declared.doc.Piece.Piece, Shape.none}
 use Rattle.bpaf_words.specs.Line.{ShortNames}
 use Rattle.bpaf_text.specs.Named.{KeyWithValue, Named}
-use Rattle.bpaf_laws.specs.Choice.{ChoicesDescribes, ChoiceDescribes, either_shape, Nested}
+use Rattle.bpaf_laws.specs.Choice.{ChoiceDescribes, either_shape}
 use Rattle.bpaf_laws.specs.Combinators.{OptionalDescribes, DefaultDescribes, SectionDescribes}
 use Rattle.bpaf_laws.specs.Combinators.{TitledDescribes, UsageDescribes, ManyDescribes}
 use Rattle.bpaf_laws.specs.Combinators.{SomeDescribes, usage_pieces}
 use Rattle.bpaf_laws.specs.Laws.{FieldsShowNames, joined_shorts, of_arguments, ShowsNames, of_flags}
-use Rattle.bpaf_laws.specs.Laws.{all_shorts, shorts_of}
+use Rattle.bpaf_laws.specs.Laws.{shorts_among}
 use Rattle.bpaf_laws.specs.Product.{ProductDescribes, BothDescribes, LastDescribes}
 use Rattle.bpaf_laws.specs.{Leaves.argument_shape, Leaves.flag_shape, Adjacent.GroupDescribes}
 use Rattle.bpaf_laws.specs.Command.{CommandDescribes, Called}
 
 -- a parser of one shape, of these names
-pub one_shape : {shape : Shape} {names : ShortNames} → shorts_of (parts shape) ≡ names
+pub one_shape : {shape : Shape} {names : ShortNames} → shorts_among (parts shape) ≡ names
     → ShowsNames (λ shown. shown ≡ shape) names
-one_shape are = record { each = λ shown is. ap (λ shape. shorts_of (parts shape)) is ∙ are }
+one_shape are = record { each = λ shown is. ap (λ shape. shorts_among (parts shape)) is ∙ are }
 
 -- a flag
 pub flag_shows : {T : Type 0} (named : Named) (absent : Option T)
@@ -85,7 +85,7 @@ module _ {inner : Shape → Type 0} {names : ShortNames} (inside : ShowsNames in
 
 -- the short names of two lists of parts
 of_joined : (first second : List Part)
-    → shorts_of (first ++ second) ≡ joined_shorts (shorts_of first) (shorts_of second)
+    → shorts_among (first ++ second) ≡ joined_shorts (shorts_among first) (shorts_among second)
 of_joined first second =
     grind (arith, flat_map-append shorts_of_flag, flat_map-append shorts_of_argument)
 
@@ -126,25 +126,3 @@ pub choice_shows : {first second : Shape → Type 0} {own others : ShortNames} �
     → ShowsNames second others
     → ShowsNames (ChoiceDescribes first second) (joined_shorts own others)
 choice_shows one other = grind (arith, either_parts, of_joined, ap₂)
-
-module _ {P : Type 0} (describes : P → Shape → Type 0) (names : P → ShortNames)
-    (each : (p : P) → ShowsNames (describes p) (names p)) where
-  -- a choice, and others after it
-  nested_shows : (before : Shape → Type 0) (own : ShortNames) → ShowsNames before own
-      → (ps : List P) → ShowsNames (Nested ChoiceDescribes describes before ps)
-      (joined_shorts own (all_shorts names ps))
-  nested_shows before own first [] = record {
-    each = λ shape is. first.each shape is ∙ grind (arith, append-nil {A = ℕ});
-  }
-  nested_shows before own first (p ∷ ps) =
-      let more = nested_shows (ChoiceDescribes before (describes p)) (joined_shorts own (names p))
-      (choice_shows first (each p)) ps in
-      record {
-        each = λ shape is. more.each shape is ∙ grind (arith, append_assoc {A = ℕ});
-      }
-
-  -- a choice of any number
-  pub choices_show : (ps : List P)
-      → ShowsNames (ChoicesDescribes describes ps) (all_shorts names ps)
-  choices_show [] = one_shape refl
-  choices_show (p ∷ ps) = nested_shows (describes p) (names p) (each p) ps

@@ -2,11 +2,11 @@
 use Rattle.std.specs.Prelude.{◌≡◌, ◌⊎◌, ◌<◌, ℕ, Bool, true, false, ◌&&◌, ◌++◌, length, Result, Ok}
 use Rattle.std.specs.Prelude.{Err, Option, Some, None, List, [], ◌∷◌, codes}
 use Rattle.std.specs.Result.{IsOk}
-use Rattle.bpaf_doc.specs.Shape.{Shape, Or, alternatives, members, Skip}
+use Rattle.bpaf_doc.specs.Shape.{Shape, Or, alternatives, members}
 use Rattle.bpaf_line.specs.Taking.{IsLeftmost, TakeTheSame, IsWinner, ConflictsSaved}
 use Rattle.bpaf_line.specs.Messages.{is_memory, is_wrong_input, Combines}
 use Rattle.bpaf_line.specs.{Situation.Situation, Situation.is_taken, declared.error.Error.Error}
-use Rattle.bpaf_laws.specs.Combinators.{is_untouched, GivesRefusal, PureOutcome, PureReads}
+use Rattle.bpaf_laws.specs.Combinators.{is_untouched}
 use Rattle.bpaf_laws.specs.{Reading.Readings, Reading.Outcome, Laws.IsNotMemory}
 
 -- how many names the path has
@@ -160,23 +160,3 @@ Nested choice meaning before (p ∷ ps) = Nested choice meaning (choice before (
 -- the message of a choice without parsers
 abbrev pub no_choice : List ℕ
 no_choice = codes "Invalid choice usage"
-
--- the choice of all parsers: of one, whatever that answers, its refusals too; of none a refusal
-abbrev pub ChoicesOutcome : {T P : Type 0} → (P → Outcome T) → List P → Outcome T
-ChoicesOutcome outcome [] = PureOutcome (GivesRefusal no_choice)
-ChoicesOutcome outcome (p ∷ ps) = Nested ChoiceOutcome outcome (outcome p) ps
-
--- a reading of one parser; without parsers there is none
-abbrev pub ChoicesReads : {T P : Type 0} → (P → Readings T) → List P → Readings T
-ChoicesReads reads [] = PureReads (λ v. ⊥)
-ChoicesReads reads (p ∷ ps) = Nested ChoiceReads reads (reads p) ps
-
--- what all parsers show; without parsers nothing is shown
-abbrev pub ChoicesDescribes : {P : Type 0} → (P → Shape → Type 0) → List P → Shape → Type 0
-ChoicesDescribes describes [] shape = shape ≡ Skip
-ChoicesDescribes describes (p ∷ ps) shape = Nested ChoiceDescribes describes (describes p) ps shape
-
--- the leftmost wins in the choice of all parsers
-abbrev pub LeftmostOfAll : {T P : Type 0} → (P → Outcome T) → List P → Outcome T
-LeftmostOfAll outcome [] s r t = Unit {0}
-LeftmostOfAll outcome (p ∷ ps) s r t = Nested LeftmostWins outcome (outcome p) ps s r t

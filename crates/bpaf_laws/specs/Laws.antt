@@ -2,7 +2,6 @@
 -- its keys, counts of places, and want of memory.
 use Rattle.std.specs.Prelude.{Option, length, Result, false, codes, List, ◌++◌, Bool, Some, None, ⊤}
 use Rattle.std.specs.Prelude.{true, ◌&&◌, ◌≡◌, not, Err, ◌+◌, ◌⊎◌, Ok, [], ℕ}
-use Rattle.std.specs.List.{flat_map}
 use Rattle.bpaf_doc.specs.Shape.{shorts_of_arguments, shorts_of_flags, parts_of_all, members, Shape}
 use Rattle.bpaf_doc.specs.{Print.printed, Print.Prints, Print.Print, declared.doc.Piece.Piece}
 use Rattle.bpaf_doc.specs.Shape.{parts, Part}
@@ -194,21 +193,14 @@ abbrev pub joined_shorts : ShortNames → ShortNames → ShortNames
 joined_shorts one other =
     record { flags = one.flags ++ other.flags; arguments = one.arguments ++ other.arguments }
 
--- those of some parsers, one after the other
-abbrev pub all_shorts : {P : Type 0} → (P → ShortNames) → List P → ShortNames
-all_shorts names ps = record {
-  flags = flat_map (λ p. (names p).flags) ps;
-  arguments = flat_map (λ p. (names p).arguments) ps;
-}
-
 -- those of flags and of arguments among parts
-abbrev pub shorts_of : List Part → ShortNames
-shorts_of items = record { flags = shorts_of_flags items; arguments = shorts_of_arguments items }
+abbrev pub shorts_among : List Part → ShortNames
+shorts_among items = record { flags = shorts_of_flags items; arguments = shorts_of_arguments items }
 
 -- whichever shape a parser shows, these are its short names, those of keys inside commands too
 pub record ShowsNames (describes : Shape → Type 0) (names : ShortNames) : Type 0 where
-  pub each : (shape : Shape) → describes shape → shorts_of (parts shape) ≡ names
+  pub each : (shape : Shape) → describes shape → shorts_among (parts shape) ≡ names
 
 -- so it is with fields
 pub record FieldsShowNames (describe : List Shape → Type 0) (names : ShortNames) : Type 0 where
-  pub each : (all : List Shape) → describe all → shorts_of (parts_of_all (members all)) ≡ names
+  pub each : (all : List Shape) → describe all → shorts_among (parts_of_all (members all)) ≡ names

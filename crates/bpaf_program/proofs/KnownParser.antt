@@ -1,37 +1,33 @@
 -- The parsers of a program, and their fields, are known where what they are made of is.
 use Rattle.std.proofs.Common.{IsUtf8, Result, Option, false, arith, List, refl, true, Bool, Some, ℕ}
 use Rattle.std.proofs.Common.{All, ap₂, ◌∙◌, ◌≡◌, Err, inl, inr, ap, Ok, None, IfOk, [], ◌∷◌}
-use Rattle.std.specs.{Result.IfErr, Global.Vec}
+use Rattle.std.specs.{Result.IfErr}
+use Rattle.bpaf_grammar.specs.Grammar.{closed, cloned, describes_of, fallback, flag, many, mapped}
+use Rattle.bpaf_grammar.specs.Grammar.{optional, outcome_of, product, repeat, FieldsGrammar}
+use Rattle.bpaf_grammar.specs.Grammar.{argument, Grammar, choice, alone, both, word, command}
+use Rattle.bpaf_grammar.specs.Grammar.{keys_of}
+use Rattle.bpaf_grammar.specs.{Laws.lawful_of, Words.Answers, Words.Deals, Words.names_of}
+use Rattle.bpaf_record.proofs.FormLaws.{law_of}
+use Rattle.bpaf_record.specs.Program.{agrees_of, program_form, are_unusual}
+use Rattle.bpaf.specs.Asked.{HandsOn, RunShows, IfShown, Showing}
 use Rattle.bpaf_doc.specs.{declared.doc.Piece.Piece, Shape.Shape, Names.Names}
-use Rattle.bpaf_words.specs.{Arguments.Given, Line.Known, Line.ShortNames}
+use Rattle.bpaf_words.specs.{Arguments.Given, Line.Known}
 use Rattle.bpaf_text.specs.Named.{KeyWithValue, key_named, Named}
 use Rattle.bpaf_line.specs.{declared.failure.ParseFailure.ParseFailure}
 use Rattle.bpaf_line.specs.declared.failure.ParseFailure.TheVariants as failure
-use Rattle.bpaf_laws.specs.Combinators.{FallbackOutcome, ManyOutcome, TurnOutcome, MapOutcome}
-use Rattle.bpaf_laws.specs.Combinators.{EachReads, ListReads, MapReads, OptionalReads, PureReads}
-use Rattle.bpaf_laws.specs.Combinators.{DefaultDescribes, GivesClone, ManyDescribes}
-use Rattle.bpaf_laws.specs.Combinators.{OptionalDescribes}
-use Rattle.bpaf_laws.specs.Command.{Called, CommandDescribes, CommandPart, CommandReads}
-use Rattle.bpaf_laws.specs.{Command.opening_words, Laws.joined_shorts, Laws.of_arguments}
-use Rattle.bpaf_laws.specs.Choice.{ChoiceDescribes, ChoiceOutcome, ChoiceReads}
-use Rattle.bpaf_laws.specs.Product.{BothDescribes, BothOutcome, BothReads, LastDescribes}
-use Rattle.bpaf_laws.specs.Product.{ProductDescribes, ProductOutcome}
-use Rattle.bpaf_laws.specs.Leaves.{ArgumentOutcome, ArgumentReads, FlagOutcome, FlagReads}
-use Rattle.bpaf_laws.specs.{Leaves.argument_shape, Leaves.flag_shape, Laws.no_shorts, Laws.of_flags}
+use Rattle.bpaf_laws.specs.Combinators.{MapOutcome, EachReads, ListReads, MapReads, OptionalReads}
+use Rattle.bpaf_laws.specs.Combinators.{PureReads}
+use Rattle.bpaf_laws.specs.Command.{Called, CommandReads}
+use Rattle.bpaf_laws.specs.{Command.opening_words, Laws.joined_shorts}
+use Rattle.bpaf_laws.specs.Choice.{ChoiceReads}
+use Rattle.bpaf_laws.specs.Product.{BothReads, ProductOutcome}
 use Rattle.bpaf_laws.specs.Reading.{Outcome, Readings}
-use Rattle.bpaf_laws.proofs.Keeping.{fallback_kept, names_want}
-use Rattle.bpaf_laws.proofs.CombinatorLaws.{fallback_lawful, many_lawful, map_lawful}
-use Rattle.bpaf_laws.proofs.{CombinatorLaws.optional_lawful, ArgumentLaws.argument_lawful}
-use Rattle.bpaf_laws.proofs.{ChoiceLaws.choice_lawful, LeafLaws.flag_lawful}
-use Rattle.bpaf_laws.proofs.ProductLaws.{product_lawful, both_lawful}
+use Rattle.bpaf_laws.proofs.Keeping.{fallback_kept}
 use Rattle.bpaf_core.specs.declared.commands.ParseCommand.{ParseCommand}
-use Rattle.bpaf.specs.Asked.{RunShows, IfShown, Showing}
-use Rattle.bpaf.specs.{declared.leaves.positional.Position.Position, AdjacentLaws.either_lawful}
-use Rattle.bpaf.specs.Command.{EitherCommandOutcome, EitherCommandReads, shown_help}
-use Rattle.bpaf.specs.{Ending.run_ending, Run.known_names, Run.IsDealtOut, Info.RunInfo}
-use Rattle.bpaf.specs.{Info.plain_info, Ending.EndsRun, Run.RunsWords}
-use Rattle.bpaf.specs.Positional.{positional_lawful, positional_shape, PositionalOutcome}
-use Rattle.bpaf.specs.Positional.{PositionalReads}
+use Rattle.bpaf_grammar.specs.declared.position.Position.{Position}
+use Rattle.bpaf_grammar.specs.Command.{EitherCommandReads}
+use Rattle.bpaf.specs.Help.{shown_help}
+use Rattle.bpaf.specs.{Run.IsDealtOut, Info.RunInfo, Info.plain_info, Run.RunsWords}
 use Rattle.bpaf.proofs.Asked.{positional_hands_on, argument_hands_on, optional_hands_on, hands_also}
 use Rattle.bpaf.proofs.Asked.{default_hands_on, product_hands_on, asked_at_also, both_hands_on}
 use Rattle.bpaf.proofs.Asked.{flag_hands_on, many_hands_on, answer_shows, IsAlsoShown, words_also}
@@ -39,15 +35,13 @@ use Rattle.bpaf.proofs.HandsOn.{command_hands_on, choice_hands_on, behind_also}
 use Rattle.bpaf_exact.proofs.ProgramForm.{program_choice_law, program_alone_law, program_field_law}
 use Rattle.bpaf_exact.proofs.ProgramForm.{program_both_law, program_con_law, narrower_form, no_more}
 use Rattle.bpaf_exact.proofs.ProgramForm.{AllowsNoMore, fallback_law, optional_law, many_law}
-use Rattle.bpaf_exact.proofs.{Leaves.argument_field_law, Leaves.flag_field_law, ProgramForm.map_law}
-use Rattle.bpaf_record.specs.Grammar.{FieldsGrammar, program_form, argument, Grammar, choice, alone}
-use Rattle.bpaf_record.specs.Grammar.{both, word, are_unusual, command, keys_of}
-use Rattle.bpaf_record.specs.{Grammar.reads_of, Commands.either_command_law, Commands.positional_law}
+use Rattle.bpaf_exact.proofs.{ProgramForm.map_law}
+use Rattle.bpaf_record.specs.{Commands.either_command_law}
 use Rattle.bpaf_record.specs.Record.{AnswersAsProgram}
 use Rattle.bpaf_program.specs.KnownParser.{AreKnownFields, known_optional, IsKnownParser, IsAlso}
 use Rattle.bpaf_program.specs.KnownParser.{program_names, known_command, known_default, inner_pages}
-use Rattle.bpaf_program.specs.KnownParser.{shown_shorts, known_switch, IsDealtBy, IsExactFor}
-use Rattle.bpaf_program.specs.KnownParser.{known_many, known_con, known_map, IsPageOf}
+use Rattle.bpaf_program.specs.KnownParser.{known_switch, IsDealtBy, IsExactFor, known_many}
+use Rattle.bpaf_program.specs.KnownParser.{known_con, known_map, IsPageOf}
 use Rattle.bpaf_program.specs.{KnownParser.IsValueBy, Fields.IsPlainCommand, KnownParser.IsKept}
 
 -- what is dealt out to the one is dealt out to the other
@@ -153,25 +147,29 @@ module _ {A B : Type 0} (inner : Outcome A) {answers wanted : A → B → Type 0
   map_within : AllowsNoMore B (MapOutcome inner wanted) (MapOutcome inner answers)
   map_within = grind (arith, no_more)
 
+-- what is made as its grammar says is known by it
+module _ {T : Type 0} (g : Grammar T) (premise : agrees_of g)
+    (hands : HandsOn (inner_pages g) (outcome_of g)) where
+  same_known : IsKnownParser g g
+  same_known = record {
+    law = λ env. law_of g premise env;
+    also = λ context share v read. read;
+    shows = λ shape shown. shown;
+    shown = refl;
+    hands = hands;
+  }
+
 -- a command over what is known
 pub called_known : {T P : Type 0} {adjacent : Bool} {called : Called} {info : RunInfo}
-    {help : Option (List Piece)} (known : Grammar T) (made : ParseCommand T P)
-    → made.adjacent ≡ adjacent → made.names ≡ called → made.info ≡ info
-    → shown_help made ≡ help → info.help_if_no_args ≡ false → {outcome : Outcome T}
-    {reads : Readings T} {describes : Shape → Type 0} {shorts : ShortNames}
-    → IsKnownParser known outcome reads describes shorts
+    {help : Option (List Piece)} (known : Grammar T) (own : ParseCommand T P)
+    → own.adjacent ≡ adjacent → own.names ≡ called → own.info ≡ info → shown_help own ≡ help
+    → info.help_if_no_args ≡ false → {one : Grammar T} → IsKnownParser known one
     → IsKnownParser (command adjacent called info help known)
-    (EitherCommandOutcome made.adjacent T outcome (EndsRun describes made.info) made.names
-    (CommandPart made.names (shown_help made) describes))
-    (EitherCommandReads made.adjacent T (opening_words made.names) reads)
-    (CommandDescribes made.names (shown_help made) describes) shorts
-called_known {T} {adjacent = adjacent} {called} {info} {help} known made adjacent_is called_is info_is
-    help_is plain {outcome} {reads} {describes} is = rw (help_is, called_is, adjacent_is, info_is)
-    (record {
-      law = λ env. either_command_law describes info called _ adjacent
+    (command own.adjacent own.names own.info (shown_help own) one)
+called_known {adjacent = adjacent} {called} {info} {help} known own adjacent_is called_is info_is
+    help_is plain {one} is = rw (help_is, called_is, adjacent_is, info_is) (record {
+      law = λ env. either_command_law (describes_of one) info called _ adjacent
           (are_unusual (keys_of known false) info) (is.law env);
-      keeps = either_lawful is.keeps (run_ending describes info) called
-          (CommandPart called help describes) adjacent;
       also = command_also is.also adjacent (opening_words called);
       shows = λ shape shown. (
         shown.0,
@@ -180,35 +178,26 @@ called_known {T} {adjacent = adjacent} {called} {info} {help} known made adjacen
       );
       shown = is.shown;
       hands = hands_also (behind_also (of_shapes is.shows (inner_pages known)))
-          (command_hands_on describes info is.keeps is.hands plain called _ adjacent);
+          (command_hands_on (describes_of one) info (lawful_of one) is.hands plain called _
+          adjacent);
     })
 
 -- a command over a program, which is one that was made by its word alone
-pub command_known : {T P : Type 0} (called : List ℕ) (known : Grammar T)
-    (describes : Shape → Type 0) {parser : P} {own made : ParseCommand T P}
-    → IsPlainCommand called parser made → own ≡ made → {outcome : Outcome T}
-    {reads : Readings T} {shorts : ShortNames}
-    → IsKnownParser known outcome reads describes shorts
-    → IsKnownParser (known_command called known)
-    (EitherCommandOutcome own.adjacent T outcome (EndsRun describes own.info)
-    own.names (CommandPart own.names (shown_help own) describes))
-    (EitherCommandReads own.adjacent T (opening_words own.names) reads)
-    (CommandDescribes own.names (shown_help own) describes) shorts
-command_known called known describes {own = own} plain same is = called_known known own
+pub command_known : {T P : Type 0} (called : List ℕ) (known : Grammar T) {parser : P}
+    {own plain : ParseCommand T P} → IsPlainCommand called parser plain → own ≡ plain
+    → {made : Grammar T} → IsKnownParser known made → IsKnownParser (known_command called known)
+    (command own.adjacent own.names own.info (shown_help own) made)
+command_known called known {own = own} plain same is = called_known known own
     (ap (λ c. c.adjacent) same ∙ plain.adjacent) (ap (λ c. c.names) same ∙ plain.names)
     (ap (λ c. c.info) same ∙ plain.info)
     (ap (λ c. shown_help c) same ∙ rw (plain.help, plain.info) refl) refl is
 
 -- a choice of commands
-pub choice_known : {T : Type 0} (first second : Grammar T) {one two : Outcome T}
-    {reads reads' : Readings T} {describes describes' : Shape → Type 0} {own others : ShortNames}
-    → IsKnownParser first one reads describes own
-    → IsKnownParser second two reads' describes' others
-    → IsKnownParser (choice first second) (ChoiceOutcome one two) (ChoiceReads reads reads')
-    (ChoiceDescribes describes describes') (joined_shorts own others)
+pub choice_known : {T : Type 0} (first second : Grammar T) {one two : Grammar T}
+    → IsKnownParser first one → IsKnownParser second two
+    → IsKnownParser (choice first second) (choice one two)
 choice_known first second these those = record {
   law = λ env. program_choice_law (these.law env) (those.law env);
-  keeps = choice_lawful these.keeps those.keeps;
   also = choice_also these.also those.also;
   shows = λ shape shown.
       (shown.0, shown.1, these.shows shown.0 shown.2, those.shows shown.1 shown.3, shown.4);
@@ -218,16 +207,13 @@ choice_known first second these those = record {
 }
 
 -- commands with a closure round them
-pub map_known : {A B : Type 0} (make : A → B) (known : Grammar A) {outcome : Outcome A}
-    {reads : Readings A} {describes : Shape → Type 0} {shorts : ShortNames}
-    → IsKnownParser known outcome reads describes shorts
-    → {answers : A → B → Type 0} → ((x : A) (v : B) → answers x v → v ≡ make x)
-    → IsKnownParser (known_map make known) (MapOutcome outcome answers)
-    (MapReads A B reads answers) describes shorts
-map_known make known {outcome} inner {answers} only = record {
-  law = λ env. narrower_form (map_within outcome only)
+pub map_known : {A B : Type 0} (make : A → B) (known : Grammar A) {one : Grammar A}
+    → IsKnownParser known one → {answers : A → B → Type 0}
+    → ((x : A) (v : B) → answers x v → v ≡ make x)
+    → IsKnownParser (known_map make known) (closed (mapped answers) one)
+map_known make known {one} inner {answers} only = record {
+  law = λ env. narrower_form (map_within (outcome_of one) only)
       (map_law (inner.law env) (λ x v. v ≡ make x));
-  keeps = map_lawful inner.keeps answers;
   also = made_also inner.also only;
   shows = inner.shows;
   shown = inner.shown;
@@ -235,13 +221,10 @@ map_known make known {outcome} inner {answers} only = record {
 }
 
 -- a last field
-pub last_known : {T : Type 0} (known : Grammar T) {outcome : Outcome T} {reads : Readings T}
-    {describes : Shape → Type 0} {shorts : ShortNames}
-    → IsKnownParser known outcome reads describes shorts
-    → AreKnownFields (alone known) outcome reads (LastDescribes describes) shorts
+pub last_known : {T : Type 0} (known : Grammar T) {made : Grammar T} → IsKnownParser known made
+    → AreKnownFields (alone known) (alone made)
 last_known known inner = record {
   law = λ env. program_alone_law (program_field_law (inner.law env));
-  keeps = inner.keeps;
   also = inner.also;
   shows = λ shapes shown. (shown.0, inner.shows shown.0 shown.1, shown.2);
   shown = inner.shown;
@@ -249,34 +232,27 @@ last_known known inner = record {
 }
 
 -- a field in front of others
-pub both_known : {A B : Type 0} (first : Grammar A) (rest : FieldsGrammar B) {one : Outcome A}
-    {outcome : Outcome B} {reads : Readings A} {reads' : Readings B} {describes : Shape → Type 0}
-    {all : List Shape → Type 0} {own others : ShortNames}
-    → IsKnownParser first one reads describes own → AreKnownFields rest outcome reads' all others
-    → AreKnownFields (both first rest) (BothOutcome one outcome) (BothReads A B reads reads')
-    (BothDescribes describes all) (joined_shorts own others)
-both_known first rest is more = record {
+pub both_known : {A B : Type 0} (first : Grammar A) (rest : FieldsGrammar B) {one : Grammar A}
+    {others : FieldsGrammar B} → IsKnownParser first one → AreKnownFields rest others
+    → AreKnownFields (both first rest) (both one others)
+both_known first rest {one} is more = record {
   law = λ env. program_both_law (program_field_law (is.law env)) (more.law env);
-  keeps = both_lawful is.keeps more.keeps;
   also = both_also is.also more.also;
   shows = λ shapes shown.
       (shown.0, shown.1, is.shows shown.0 shown.2, more.shows shown.1 shown.3, shown.4);
   shown = ap₂ joined_shorts is.shown more.shown;
-  hands = both_hands_on is.keeps (hands_also (λ s doc full it. inl it) is.hands)
+  hands = both_hands_on (lawful_of one) (hands_also (λ s doc full it. inl it) is.hands)
       (hands_also (λ s doc full it. inr it) more.hands);
 }
 
 -- with a constructor
-pub con_known : {A B : Type 0} (make : A → B) (known : FieldsGrammar A) {outcome : Outcome A}
-    {reads : Readings A} {describes : List Shape → Type 0} {shorts : ShortNames}
-    → AreKnownFields known outcome reads describes shorts
-    → {answers : A → B → Type 0} → ((x : A) (v : B) → answers x v → v ≡ make x)
-    → IsKnownParser (known_con make known) (ProductOutcome outcome answers)
-    (MapReads A B reads answers) (ProductDescribes describes) shorts
-con_known make known {outcome} fields {answers} only = record {
-  law = λ env. narrower_form (con_within outcome only)
+pub con_known : {A B : Type 0} (make : A → B) (known : FieldsGrammar A) {those : FieldsGrammar A}
+    → AreKnownFields known those → {answers : A → B → Type 0}
+    → ((x : A) (v : B) → answers x v → v ≡ make x)
+    → IsKnownParser (known_con make known) (product answers those)
+con_known make known {those} fields {answers} only = record {
+  law = λ env. narrower_form (con_within (outcome_of those) only)
       (program_con_law (λ x v. v ≡ make x) (fields.law env));
-  keeps = product_lawful answers fields.keeps;
   also = made_also fields.also only;
   shows = λ shape shown. (shown.0, fields.shows shown.0 shown.1, shown.2);
   shown = fields.shown;
@@ -285,7 +261,7 @@ con_known make known {outcome} fields {answers} only = record {
 
 -- an answer exact by a grammar's names and form is exact for its values, where words are texts
 pub exact_for : {T : Type 0} (known : Grammar T) {own : Given} {info : RunInfo} {given : Given}
-    {r : Result T ParseFailure} → AnswersAsProgram T (known_names info (shown_shorts known))
+    {r : Result T ParseFailure} → AnswersAsProgram T (names_of known info)
     (program_form known given.env) given r
     → info ≡ plain_info → given ≡ own → All IsUtf8 own.words → IsExactFor (IsValueBy known own) r
 exact_for {T} known {own} {r = r} exact info_is given_is texts =
@@ -294,23 +270,21 @@ exact_for {T} known {own} {r = r} exact info_is given_is texts =
     record { sound = here.sound; complete = here.answered texts }
 
 -- what a run of a known program shows in place of a value is a page that its words ask for
-pub asks_for_page : {T : Type 0} (known : Grammar T) (own : Given) {outcome : Outcome T}
-    {reads : Readings T} {describes : Shape → Type 0} {shorts : ShortNames} {info : RunInfo}
-    {given : Given} {r : Result T ParseFailure}
-    → RunsWords T outcome describes info (known_names info shorts) given r
-    → IsKnownParser known outcome reads describes shorts → (texts : RunInfo → Type 0) → texts info
+pub asks_for_page : {T : Type 0} (known : Grammar T) (own : Given) {one : Grammar T}
+    {info : RunInfo} {given : Given} {r : Result T ParseFailure} → Answers one info given r
+    → IsKnownParser known one → (texts : RunInfo → Type 0) → texts info
     → info.help_if_no_args ≡ false → given ≡ own → IfErr r (IfShown (IsPageOf known texts own))
-asks_for_page {T} known own {outcome} {describes} {info = info} {r = r} runs is texts told plain
-    given_is = asks r (rw (given_is, is.shown) at runs)
+asks_for_page {T} known own {one} {info = info} {r = r} runs is texts told plain given_is =
+    asks r (rw (given_is, is.shown) at runs)
   where
     asks : (r : Result T ParseFailure)
-        → RunsWords T outcome describes info (known_names info (shown_shorts known)) own r
+        → RunsWords T (outcome_of one) (describes_of one) info (names_of known info) own r
         → IfErr r (IfShown (IsPageOf known texts own))
     asks (Err (failure.Stdout doc full)) runs = (
       info,
       told,
-      words_also (of_shapes is.shows (inner_pages known))
-          (answer_shows is.keeps is.hands plain (Err (failure.Stdout doc full)) runs),
+      words_also (of_shapes is.shows (inner_pages known)) (answer_shows (lawful_of one) is.hands
+          plain (Err (failure.Stdout doc full)) runs),
     )
     asks (Err (failure.Stderr doc)) runs = tt
     asks (Err failure.Memory) runs = tt
@@ -343,8 +317,7 @@ also_said P Q (Err f) so too = tt
 -- what such a program without texts of its own deals out
 pub dealt_by : {T : Type 0} (P : T → Type 0) (known : Grammar T) (own : Given) {info : RunInfo}
     {given : Given} (r : Result T ParseFailure)
-    → IfOk r (λ v. P v
-    × IsDealtOut T (reads_of known) (known_names info (shown_shorts known)) given v)
+    → IfOk r (λ v. P v × Deals known info given v)
     → info ≡ plain_info → given ≡ own → IfOk r (IsDealtBy known own)
 dealt_by P known own (Ok v) dealt info_is given_is = rw (info_is, given_is) at dealt.1
 dealt_by P known own (Err f) dealt info_is given_is = tt
@@ -355,75 +328,43 @@ dealt_by P known own (Err f) dealt info_is given_is = tt
 pub switch_known : (names : Names) (help : Option (List Piece)) {named : Named}
     → named ≡ record (key_named names) { help = help } → {present : Bool} → present ≡ true
     → {absent : Option Bool} → absent ≡ Some false
-    → IsKnownParser (known_switch names help) (FlagOutcome IsKept named present absent)
-    (FlagReads Bool IsKept named present absent) (λ shape. shape ≡ flag_shape named absent)
-    (of_flags named.names.shorts)
-switch_known names help named_is present_is absent_is =
-    rw (named_is, present_is, absent_is) (record {
-      law = λ env. flag_field_law env Bool IsKept (record (key_named names) { help = help }) true
-          (Some false);
-      keeps = flag_lawful Bool IsKept (record (key_named names) { help = help }) true (Some false);
-      also = λ context share v read. read;
-      shows = λ shape shown. shown;
-      shown = refl;
-      hands = flag_hands_on IsKept (record (key_named names) { help = help }) true (Some false);
-    })
+    → IsKnownParser (known_switch names help) (flag IsKept named present absent)
+switch_known names help named_is present_is absent_is = rw (named_is, present_is, absent_is)
+    (same_known (known_switch names help) tt
+    (flag_hands_on IsKept (record (key_named names) { help = help }) true (Some false)))
 
 -- an argument
 pub argument_known : {T : Type 0} (means : List ℕ → T → Type 0) (key : KeyWithValue)
-    {own : KeyWithValue} → own ≡ key
-    → IsKnownParser (argument means key) (ArgumentOutcome means own) (ArgumentReads T means own)
-    (λ shape. shape ≡ argument_shape own) (of_arguments own.named.names.shorts)
-argument_known {T} means key is = rw is (record {
-  law = λ env. argument_field_law env T means key;
-  keeps = argument_lawful T means key;
-  also = λ context share v read. read;
-  shows = λ shape shown. shown;
-  shown = refl;
-  hands = argument_hands_on means key;
-})
+    {own : KeyWithValue} → own ≡ key → IsKnownParser (argument means key) (argument means own)
+argument_known means key is =
+    rw is (same_known (argument means key) tt (argument_hands_on means key))
 
 -- a word
 pub word_known : {T : Type 0} (means : List ℕ → T → Type 0) (place : Position)
     (metavar : List ℕ) (help : Option (List Piece)) {position : Position} → position ≡ place
     → {named : List ℕ} → named ≡ metavar → {own : Option (List Piece)} → own ≡ help
-    → IsKnownParser (word means place metavar help) (PositionalOutcome means position named)
-    (PositionalReads T means position) (λ shape. shape ≡ positional_shape position named own)
-    no_shorts
-word_known {T} means place metavar help place_is metavar_is help_is =
-    rw (place_is, metavar_is, help_is) (record {
-      law = λ env. positional_law env T means place metavar;
-      keeps = positional_lawful T means place metavar;
-      also = λ context share v read. read;
-      shows = λ shape shown. shown;
-      shown = refl;
-      hands = positional_hands_on means place metavar;
-    })
+    → IsKnownParser (word means place metavar help) (word means position named own)
+word_known means place metavar help place_is metavar_is help_is =
+    rw (place_is, metavar_is, help_is) (same_known (word means place metavar help) tt
+    (positional_hands_on means place metavar))
 
-module _ {T : Type 0} {known : Grammar T} {outcome : Outcome T} {reads : Readings T}
-    {describes : Shape → Type 0} {shorts : ShortNames}
-    (is : IsKnownParser known outcome reads describes shorts) where
+module _ {T : Type 0} {known made : Grammar T} (is : IsKnownParser known made) where
   -- a repeat
   pub many_known : {catch : Bool} → catch ≡ false
-      → IsKnownParser (known_many known) (ManyOutcome outcome catch)
-      (MapReads (List T) (Vec T) (ListReads reads) (λ values v. v.items ≡ values))
-      (ManyDescribes describes) shorts
+      → IsKnownParser (known_many known) (repeat (many catch) made)
   many_known none = rw none (record {
     law = λ env. many_law (is.law env) false;
-    keeps = many_lawful is.keeps false;
     also = made_also (list_also is.also) (λ values v made. made);
     shows = λ shape shown. (shown.0, is.shows shown.0 shown.1, shown.2);
     shown = is.shown;
-    hands = many_hands_on is.keeps is.hands false;
+    hands = many_hands_on (lawful_of made) is.hands false;
   })
 
   -- what may be left out
   pub optional_known : {catch : Bool} → catch ≡ false
-      → IsKnownParser (known_optional known) (TurnOutcome outcome catch true)
-      (OptionalReads reads) (OptionalDescribes describes) shorts
+      → IsKnownParser (known_optional known) (optional catch made)
   optional_known none = rw none (record {
     law = λ env. optional_law (is.law env) false;
-    keeps = optional_lawful is.keeps false;
     also = optional_also is.also;
     shows = λ shape shown. (shown.0, is.shows shown.0 shown.1, shown.2);
     shown = is.shown;
@@ -433,13 +374,11 @@ module _ {T : Type 0} {known : Grammar T} {outcome : Outcome T} {reads : Reading
   -- what is this value where it is left out
   pub default_known : {clones : T → T → Type 0} → ((own v : T) → clones own v → v ≡ own)
       → (value : T) {kept : T} → kept ≡ value → {look : Option (List Piece)} → look ≡ None
-      → IsKnownParser (known_default value known) (FallbackOutcome outcome (GivesClone clones kept))
-      (ChoiceReads reads (PureReads (clones kept))) (DefaultDescribes describes look) shorts
+      → IsKnownParser (known_default value known) (fallback look (cloned clones kept) made)
   default_known {clones} equal value is_kept unseen = rw (is_kept, unseen) (record {
-    law = λ env. narrower_form (no_more (λ s t r o. fallback_kept equal outcome value s r t o))
+    law = λ env. narrower_form
+        (no_more (λ s t r o. fallback_kept equal (outcome_of made) value s r t o))
         (fallback_law (is.law env) IsKept value);
-    keeps = fallback_lawful is.keeps (GivesClone clones value)
-        (λ context e gives. names_want context e.0 gives);
     also = choice_also is.also (pure_also (λ v gives. equal value v gives));
     shows = λ shape shown. (shown.0, is.shows shown.0 shown.1, shown.2);
     shown = is.shown;

@@ -8,7 +8,7 @@ use Rattle.bpaf_words.specs.{Line.Known, Line.IsKnownAs, Arguments.Given}
 use Rattle.bpaf_line.specs.{Situation.Context, Situation.item_in, Taking.IsContext}
 use Rattle.bpaf_laws.specs.Reading.{Share}
 use Rattle.bpaf.specs.{Marker.words_before, Positional.PositionalReads}
-use Rattle.bpaf.specs.declared.leaves.positional.Position.TheVariants.{NonStrict}
+use Rattle.bpaf_grammar.specs.declared.position.Position.TheVariants.{NonStrict}
 use Rattle.bpaf.proofs.Sides.{all_spelled}
 use Rattle.bpaf_record.proofs.Running.{each_at}
 

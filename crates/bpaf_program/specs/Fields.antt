@@ -7,7 +7,8 @@ use Rattle.bpaf_text.specs.Named.{KeyWithValue, key_named, with_help}
 use Rattle.bpaf_laws.specs.{Command.named_only}
 use Rattle.bpaf_core.specs.declared.commands.ParseCommand.{ParseCommand}
 use Rattle.bpaf.specs.declared.leaves.positional.ParsePositional.{ParsePositional}
-use Rattle.bpaf.specs.{Info.plain_info, declared.leaves.positional.Position.Position}
+use Rattle.bpaf.specs.{Info.plain_info}
+use Rattle.bpaf_grammar.specs.declared.position.Position.{Position}
 use Rattle.bpaf.proofs.LeafLemmas.{key_with_help}
 
 -- a flag with these names, its present value and perhaps an absent one, and no help

@@ -1,12 +1,12 @@
-//! A run of options whose parser is made in functions of the program's own.
+//! A run of options whose parser is the one that a program knows, in whatever functions it is made.
+ghost use Rattle.bpaf_grammar.specs.Words.{Answers, AnswersSpared, Deals, Refuses, names_of};
 ghost use Rattle.std.specs.Prelude.{◌≡◌, false, true};
 ghost use Rattle.bpaf_exact.specs.{Flat.Variables, ProgramForm.is_program};
-ghost use Rattle.bpaf_record.specs.Grammar.{Grammar, program_form, reads_of};
+ghost use Rattle.bpaf_grammar.specs.Grammar.{Grammar};
+ghost use Rattle.bpaf_record.specs.Program.{program_form};
 ghost use Rattle.bpaf_record.specs.Record.{AnswersAsProgram, TellsOfWords};
-ghost use Rattle.bpaf.specs.{Asked.IfShown, Refusals.IsOneOfTwelve};
-ghost use Rattle.bpaf.specs.Run.{IsDealtOut, known_names, RunsWords};
-ghost use Rattle.bpaf_laws.specs.Laws.{WithoutMemory};
-ghost use Rattle.bpaf_program.specs.KnownParser.{IsKnownParser, IsPageOf, shown_shorts};
+ghost use Rattle.bpaf.specs.{Asked.IfShown};
+ghost use Rattle.bpaf_program.specs.KnownParser.{IsKnownParser, IsPageOf};
 
 use bpaf::{Args, OptionParser, ParseFailure, Parser};
 use bpaf_record::CommandLine;
@@ -53,36 +53,25 @@ impl<T: Drop, P: Parser<T>, K: KnownProgram<T>> CommandLine<T> for KnownOptions<
     }
 
     ghost can_run = { λ p. P.can_eval p.options.inner
-        × IsKnownParser K.grammar (P.outcome p.options.inner) (P.reads p.options.inner)
-        (P.describes p.options.inner) (P.shorts p.options.inner) };
+        × IsKnownParser K.grammar (P.grammar p.options.inner) };
 
     ghost agrees = { λ p. Unit {0} };
 
-    ghost answers = { λ p given. RunsWords T (P.outcome p.options.inner)
-        (P.describes p.options.inner) p.options.info
-        (known_names p.options.info (P.shorts p.options.inner)) given };
+    ghost answers = { λ p. Answers (P.grammar p.options.inner) p.options.info };
 
-    ghost refuses = { λ p given f. IsOneOfTwelve (P.outcome p.options.inner)
-        (P.describes p.options.inner) p.options.info
-        (known_names p.options.info (P.shorts p.options.inner)) given f
+    ghost refuses = { λ p given f. Refuses (P.grammar p.options.inner) p.options.info given f
         × (p.options.info.help_if_no_args ≡ false
         → IfShown (IsPageOf K.grammar (λ info. info ≡ p.options.info) given) f) };
 
-    ghost deals = { λ p given v. IsDealtOut T (P.reads p.options.inner)
-        (known_names p.options.info (P.shorts p.options.inner)) given v
-        × IsDealtOut T (reads_of K.grammar)
-        (known_names p.options.info (shown_shorts K.grammar)) given v };
+    ghost deals = { λ p given v. Deals (P.grammar p.options.inner) p.options.info given v
+        × Deals K.grammar p.options.info given v };
 
-    ghost tells = { λ p given.
-        TellsOfWords (known_names p.options.info (shown_shorts K.grammar)) K.grammar given };
+    ghost tells = { λ p. TellsOfWords (names_of K.grammar p.options.info) K.grammar };
 
-    ghost answers_spared = { λ p given. RunsWords T (WithoutMemory (P.outcome p.options.inner))
-        (P.describes p.options.inner) p.options.info
-        (known_names p.options.info (P.shorts p.options.inner)) given };
+    ghost answers_spared = { λ p. AnswersSpared (P.grammar p.options.inner) p.options.info };
 
     ghost answers_as_program = { λ p given. AnswersAsProgram T
-        (known_names p.options.info (shown_shorts K.grammar)) (program_form K.grammar given.env)
-        given };
+        (names_of K.grammar p.options.info) (program_form K.grammar given.env) given };
 
     fn run_program(&self, args: Args<'_>) -> Result<T, ParseFailure> {
         self.options.run_inner(args)

@@ -14,9 +14,9 @@
 //! - Each takes a [`Sink`], of whose writes a contract can say that the last one failed (`Failed`,
 //!   specs/Ending.antt). Any `Write` is one, of which nothing is known but its bytes.
 //! - [`push_line`] appends a line to a text, and [`push_lines`] one for each of some texts.
-//! - [`plain_command`] is a command over a parser, without a help. A parser that is made in functions
-//!   of the program's own runs by [`KnownOptions`], exactly for what the program says that it is
-//!   made of ([`KnownProgram`]).
+//! - [`plain_command`] is a command over a parser, without a help.
+//! - [`KnownOptions`] runs a parser exactly for what the program says that it is made of
+//!   ([`KnownProgram`]).
 //! - [`words`] are the words of the process.
 //! - [`see_texts`] tells a contract that lent words are texts, as a run that is exact asks.
 //!

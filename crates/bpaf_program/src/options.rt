@@ -1,4 +1,5 @@
 //! A run of a program's options, with its end.
+ghost use Rattle.bpaf_grammar.specs.Grammar.{outcome_of, reads_of, describes_of, shorts_of};
 ghost use Rattle.std.specs.{Prelude.◌≡◌, Prelude.IfOk, Prelude.true, Prelude.Result, Result.IfErr};
 ghost use Rattle.bpaf_words.specs.Arguments.{given_of, Given};
 ghost use Rattle.bpaf.specs.Run.{IsNotWant, RunsWords, IsDealtOut, known_names};
@@ -41,11 +42,11 @@ impl<T: Drop, P: Parser<T>> Program<T> for OptionParser<T, P> {
     ghost can_run = { λ p. P.can_eval p.inner };
 
     ghost answers = { λ p given r.
-        let known = known_names p.info (P.shorts p.inner) in
-        RunsWords T (P.outcome p.inner) (P.describes p.inner) p.info known given r
-        × (IfErr r (IsOneOfTwelve (P.outcome p.inner) (P.describes p.inner) p.info known given)
-        × (IfOk r (IsDealtOut T (P.reads p.inner) known given)
-        × (IsNotWant r → RunsWords T (WithoutMemory (P.outcome p.inner)) (P.describes p.inner)
+        let known = known_names p.info (shorts_of (P.grammar p.inner)) in
+        RunsWords T (outcome_of (P.grammar p.inner)) (describes_of (P.grammar p.inner)) p.info known given r
+        × (IfErr r (IsOneOfTwelve (outcome_of (P.grammar p.inner)) (describes_of (P.grammar p.inner)) p.info known given)
+        × (IfOk r (IsDealtOut T (reads_of (P.grammar p.inner)) known given)
+        × (IsNotWant r → RunsWords T (WithoutMemory (outcome_of (P.grammar p.inner))) (describes_of (P.grammar p.inner))
         p.info known given r))) };
 
     fn run<S: Sink, E: Sink>(&self, args: Args<'_>, out: &mut S, err: &mut E) -> Result<T, u8> {

@@ -1,8 +1,7 @@
 //! The words that the process was given.
-ghost use Rattle.std.specs.Prelude.{◌≡◌, ◌⊎◌, IfOk, List, codes, drop};
+ghost use Rattle.std.specs.Prelude.{◌≡◌, IfOk, drop};
 ghost use Rattle.std.specs.Vec.Iter.{into_iter_items};
 ghost use Rattle.std.specs.{Result.IfErr, declared.io.ErrorKind.TheVariants.OutOfMemory};
-ghost use Rattle.bpaf_doc.specs.{declared.doc.Piece.Piece, Print.text_pieces};
 ghost use Rattle.bpaf_line.specs.declared.failure.ParseFailure.TheVariants.{Memory, Stderr};
 ghost use Rattle.bpaf_program.specs.Ending.{IsUnread};
 

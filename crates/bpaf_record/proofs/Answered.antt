@@ -29,7 +29,7 @@ use Rattle.bpaf_words.proofs.OneSpelling.{one_spelling}
 use Rattle.bpaf_line.specs.{declared.failure.ParseFailure.ParseFailure, Situation.Context}
 use Rattle.bpaf_line.specs.Taking.{IsContext}
 use Rattle.bpaf_laws.specs.Command.{is_one_of}
-use Rattle.bpaf.specs.declared.leaves.positional.Position.TheVariants.{NonStrict, Strict}
+use Rattle.bpaf_grammar.specs.declared.position.Position.TheVariants.{NonStrict, Strict}
 use Rattle.bpaf.specs.Marker.{is_marker_word, words_before, words_behind}
 use Rattle.bpaf.specs.Positional.{accepts}
 use Rattle.bpaf.proofs.Sides.{all_spelled, of_words}
@@ -44,7 +44,8 @@ use Rattle.bpaf_exact.specs.Says.{says_variable, says_present, ArgumentSays, Opt
 use Rattle.bpaf_exact.specs.Says.{FallbackSays, says_absent, first_item, RepeatSays, scope_said}
 use Rattle.bpaf_exact.specs.Says.{says_some, says_none, WordSays, CutSays, keyed, Said}
 use Rattle.bpaf_exact.specs.Flat.{OneWord, front, back}
-use Rattle.bpaf_record.specs.Grammar.{ends_in_commands, program_form, cells_say, Grammar, says}
+use Rattle.bpaf_grammar.specs.Grammar.{Grammar}
+use Rattle.bpaf_record.specs.Program.{ends_in_commands, program_form, cells_say, says}
 use Rattle.bpaf_record.specs.Record.{IsSpelledItem, TellsOfWords, WasSpelled, WasCalled}
 use Rattle.bpaf_record.proofs.Running.{each_present, cut_kept, on_line, present}
 

@@ -17,17 +17,19 @@ use Rattle.bpaf_exact.proofs.ProgramSays.{program_choice_says, program_closed_sa
 use Rattle.bpaf_exact.proofs.ProgramSays.{program_repeat_says, program_last_says, program_con_says}
 use Rattle.bpaf_exact.proofs.ProgramSays.{only_says, both_say}
 use Rattle.bpaf_exact.proofs.Says.{argument_says, word_by_says, flag_says}
-use Rattle.bpaf_exact.specs.Flat.{FallbackValue, Variables, OwnList, LastOf}
+use Rattle.bpaf_exact.specs.Flat.{FallbackValue, Variables, OwnList, LastOf, map_closure}
 use Rattle.bpaf_exact.specs.Pieces.{WithNext, Alone}
 use Rattle.bpaf_exact.specs.ProgramForm.{program_value, CommandValue, is_program, are_plain}
 use Rattle.bpaf_exact.specs.ProgramForm.{commands}
 use Rattle.bpaf_laws.specs.Command.{opening_words}
+use Rattle.bpaf_grammar.specs.Grammar.{own, made, stretch, command_words, FieldsGrammar, GrammarOf}
+use Rattle.bpaf_grammar.specs.Grammar.{argument, fallback, optional, command, dressed, Grammar}
+use Rattle.bpaf_grammar.specs.Grammar.{both, keys_of, product, choice, closed, repeat, alone, flag}
+use Rattle.bpaf_grammar.specs.Grammar.{kept, last, only, word}
+use Rattle.bpaf_record.specs.Program.{catches, default_closure, repeat_closure, step_closure}
+use Rattle.bpaf_record.specs.Program.{ends_in_commands, program_form, are_unusual, scope_says}
+use Rattle.bpaf_record.specs.Program.{cells_say, said_kind, says}
 use Rattle.bpaf_exact.specs.Says.{FieldsSay, IsSaid, Says}
-use Rattle.bpaf_record.specs.Grammar.{ends_in_commands, command_words, FieldsGrammar, program_form}
-use Rattle.bpaf_record.specs.Grammar.{are_unusual, scope_says, cells_say, GrammarOf, said_kind}
-use Rattle.bpaf_record.specs.Grammar.{argument, fallback, optional, command, dressed, Grammar, both}
-use Rattle.bpaf_record.specs.Grammar.{keys_of, product, choice, closed, repeat, alone, other, flag}
-use Rattle.bpaf_record.specs.Grammar.{kept, last, only, says, word}
 
 -- its own keys are those with its names
 pub grammar_owns : {fields : Bool} {T : Type 0} (g : GrammarOf fields T) (variables : Variables)
@@ -40,16 +42,18 @@ grammar_owns (argument means key) variables =
     (is_nil key.named.envs && not key.last) _ _ _
     (test_owns WithNext (λ k e. (and_parts (is_key_of key.named.names k) _ e).0))
 grammar_owns (word means position metavar help) variables = record { by = none_owned [] }
-grammar_owns (kept given) variables = record { by = none_owned [] }
-grammar_owns other variables = record { by = tt }
-grammar_owns (closed f g) variables = closed_owns f _ (grammar_owns g variables)
+grammar_owns (kept clones value) variables = record { by = none_owned [] }
+grammar_owns (own o) variables = record { by = tt }
+grammar_owns (made makes g) variables = record { by = tt }
+grammar_owns (stretch first g) variables = record { by = tt }
+grammar_owns (closed f g) variables = closed_owns (step_closure f) _ (grammar_owns g variables)
 grammar_owns (dressed look g) variables = dressed_owns _ (grammar_owns g variables)
 grammar_owns (optional catch g) variables =
     if_owns (not catch) (optional_owns _ (grammar_owns g variables))
-grammar_owns (fallback {T = T} shown f g) variables =
-    default_owns _ (grammar_owns g variables) (λ group gap. FallbackValue T group gap f)
-grammar_owns (repeat {A = A} catch needed f g) variables =
-    if_owns (not catch) (closed_owns f _ (repeat_owns _ (grammar_owns g variables) (OwnList A)))
+grammar_owns (fallback {T = T} shown d g) variables = default_owns _ (grammar_owns g variables)
+    (λ group gap. FallbackValue T group gap (default_closure d))
+grammar_owns (repeat {A = A} f g) variables = if_owns (not (catches f))
+    (closed_owns (repeat_closure f) _ (repeat_owns _ (grammar_owns g variables) (OwnList A)))
 grammar_owns (last {T = T} g) variables = repeat_owns _ (grammar_owns g variables) (LastOf T)
 grammar_owns (choice g h) variables = choice_owns (command_words g) (command_words h) _ _
     (grammar_owns g variables) (grammar_owns h variables)
@@ -62,7 +66,8 @@ grammar_owns (command {T = T} adjacent called info help g) variables = if_owns
 grammar_owns (alone g) variables = alone_owns _ (field_owns _ (grammar_owns g variables))
 grammar_owns (both g h) variables =
     both_owns _ _ (field_owns _ (grammar_owns g variables)) (grammar_owns h variables)
-grammar_owns (product f g) variables = con_owns f _ (grammar_owns g variables)
+grammar_owns (product makes g) variables =
+    con_owns (map_closure makes) _ (grammar_owns g variables)
 
 mutual
   -- a value of a parser says so
@@ -73,15 +78,19 @@ mutual
       flag_says clones present key absent variables
   grammar_says (argument means key) variables = argument_says means key variables
   grammar_says (word means position metavar help) variables = word_by_says (accepts position) means
-  grammar_says (kept given) variables = pure_says given
-  grammar_says other variables = record { by = tt }
-  grammar_says (closed f g) variables = program_closed_says f (grammar_says g variables)
+  grammar_says (kept clones value) variables = pure_says (clones value)
+  grammar_says (own o) variables = record { by = tt }
+  grammar_says (made makes g) variables = record { by = tt }
+  grammar_says (stretch first g) variables = record { by = tt }
+  grammar_says (closed f g) variables =
+      program_closed_says (step_closure f) (grammar_says g variables)
   grammar_says (dressed look g) variables = program_dressed_says (grammar_says g variables)
   grammar_says (optional catch g) variables =
       program_optional_says (grammar_says g variables) catch
-  grammar_says (fallback shown f g) variables = program_fallback_says (grammar_says g variables) f
-  grammar_says (repeat catch needed f g) variables =
-      program_repeat_says (grammar_says g variables) catch f
+  grammar_says (fallback shown d g) variables =
+      program_fallback_says (grammar_says g variables) (default_closure d)
+  grammar_says (repeat f g) variables =
+      program_repeat_says (grammar_says g variables) (catches f) (repeat_closure f)
   grammar_says (last g) variables = program_last_says (grammar_says g variables)
   grammar_says (choice g h) variables = program_choice_says (keys_of g true) (keys_of h true)
       (command_words g) (command_words h) (grammar_says g variables) (grammar_says h variables)
@@ -89,7 +98,8 @@ mutual
   grammar_says (command adjacent called info help g) variables = program_command_says adjacent
       (are_unusual (keys_of g false) info) called (grammar_owns g variables)
       (grammar_says g variables)
-  grammar_says (product f g) variables = program_con_says f (fields_say g variables)
+  grammar_says (product makes g) variables =
+      program_con_says (map_closure makes) (fields_say g variables)
 
   -- and those of fields do
   pub fields_say : {V : Type 0} (g : FieldsGrammar V) (variables : Variables)

@@ -1,5 +1,7 @@
+pub mod FormLaws
 pub mod Parts
 pub mod GrammarSays
 pub mod Surplus
 pub mod Running
 pub mod Answered
+pub mod LookAlike

@@ -4,6 +4,7 @@ use Rattle.std.proofs.Common.{length, false, arith, Bool, true, ◌&&◌, List, 
 use Rattle.std.proofs.Common.{◌≡◌, not, ◌∷◌, sym, ◌∙◌, suc, ◌+◌, ◌<◌, ◌≤◌, ap, ℕ}
 use Rattle.std.proofs.{lemmas.List.Folds.list_all-append, lemmas.List.take_more}
 use Rattle.std.specs.List.{list_all}
+use Rattle.bpaf_grammar.proofs.Choices.{nested_more}
 use Rattle.bpaf_doc.specs.Names.{Names}
 use Rattle.bpaf_laws.specs.{Command.opening_words, Command.Called, Choice.Nested}
 use Rattle.bpaf_exact.specs.Flat.{FallbackValue, FieldKind, repeated, OwnList, Closure, Groups, Gap}
@@ -16,8 +17,8 @@ use Rattle.bpaf_exact.specs.{Pieces.are_all_apart, Pieces.LinePiece, Flat.LastOf
 use Rattle.bpaf_record.specs.Part.{dressed_part, command_part, closed_part, chosen_part, field_part}
 use Rattle.bpaf_record.specs.Part.{before_part, only_part, last_part, made_part, may_stand, kind_of}
 use Rattle.bpaf_record.specs.Part.{is_program_part, completed_part, is_record_part, optional_part}
-use Rattle.bpaf_record.specs.Grammar.{command_words, choices_of, Grammar, keys_of, choice}
 use Rattle.bpaf_record.specs.Part.{form_part, part_if}
+use Rattle.bpaf_grammar.specs.Grammar.{command_words, choices_of, Grammar, keys_of, choice}
 
 -- where a test holds
 if_is : {T : Type 0} (b : Bool) (s : ProgramForm T)
@@ -135,20 +136,14 @@ pub con_part_is : {A B : Type 0} (f : Closure A B) (s : ProgramForm A)
 con_part_is f s = grind arith
 
 module _ {P T : Type 0} (of : P → Grammar T) where
-  -- one parser more is chosen last
-  nested_more : (g : Grammar T) (ps : List P) (q : P)
-      → Nested choice of g (ps ++ q ∷ []) ≡ choice (Nested choice of g ps) (of q)
-  nested_more g [] q = refl
-  nested_more g (p ∷ ps) q = nested_more (choice g (of p)) ps q
-
-  -- so it is behind the first parsers of a list
+  -- one parser more is chosen last, behind the first parsers of a list
   pub one_more : (ps : List P) (i : ℕ) (d : P) → 1 ≤ i → i < length ps
       → choices_of of (take (i + 1) ps) ≡ choice (choices_of of (take i ps))
       (of (slice_index_or ps i d))
   one_more ps zero d some l = absurd (omega arith)
   one_more [] (suc i) d some l = absurd (omega arith)
   one_more (p ∷ ps) (suc i) d some l = ap (choices_of of) (take_more (p ∷ ps) (suc i) d l)
-      ∙ nested_more (of p) (take i ps) (slice_index_or (p ∷ ps) (suc i) d)
+      ∙ nested_more of (of p) (take i ps) (slice_index_or (p ∷ ps) (suc i) d)
 
   -- and of the first alone it is that one
   pub first_is : (ps : List P) (d : P) → 1 ≤ length ps

@@ -29,7 +29,8 @@ use Rattle.bpaf_exact.specs.ProgramForm.{whole_program, program_value, ProgramFo
 use Rattle.bpaf_exact.specs.ProgramForm.{is_program, is_dashed, is_record, Accepted, FormLaw}
 use Rattle.bpaf_exact.specs.Says.{first_item}
 use Rattle.bpaf_exact.specs.{Flat.first_cells, Pieces.flag, Pieces.word, Pieces.Cut}
-use Rattle.bpaf_record.specs.Grammar.{program_form, Grammar, keys_of}
+use Rattle.bpaf_grammar.specs.Grammar.{Grammar, keys_of}
+use Rattle.bpaf_record.specs.Program.{program_form}
 use Rattle.bpaf_record.proofs.{GrammarSays.grammar_says_so, Surplus.has_no_surplus}
 use Rattle.bpaf_record.specs.Record.{is_whole_program, AnswersAsProgram, AnswersByFields, answer_of}
 use Rattle.bpaf_record.specs.Record.{is_flat_record, IsValueOrWant, TellsOfWords, PiecesOf}

@@ -16,7 +16,7 @@ use Rattle.bpaf_exact.proofs.OwnedKeys.{whole_owns, none_owned, OwnsKeys}
 use Rattle.bpaf_exact.proofs.ProgramSays.{cut_says}
 use Rattle.bpaf_exact.specs.Flat.{FieldsReading, FallbackValue, both_reading, FieldKind, is_behind}
 use Rattle.bpaf_exact.specs.Flat.{Variables, EachWord, repeated, Closure, OneWord, OwnList, portion}
-use Rattle.bpaf_exact.specs.Flat.{ByName, Groups, LastOf, keys, left, Gap}
+use Rattle.bpaf_exact.specs.Flat.{ByName, Groups, LastOf, keys, left, Gap, map_closure}
 use Rattle.std.specs.List.{before_first, list_all}
 use Rattle.bpaf_exact.specs.Pieces.{is_key_of_any, are_all_apart, is_own_role, LinePiece, no_roles}
 use Rattle.bpaf_exact.specs.Pieces.{either, others, Cells, Roles, Owns, Cut}
@@ -29,12 +29,14 @@ use Rattle.bpaf_exact.specs.ProgramForm.{program_if, is_program, completed, key_
 use Rattle.bpaf_exact.specs.ProgramForm.{complete, commands}
 use Rattle.bpaf_exact.specs.Says.{repeated_kind, words_after, first_item, its_pieces, form_kind}
 use Rattle.bpaf_exact.specs.Says.{SaidKind, of_kind, of_rest, unkeyed, keyed}
-use Rattle.bpaf_record.specs.Grammar.{product as made, repeated_limit, command_words, FieldsGrammar}
-use Rattle.bpaf_record.specs.Grammar.{limit_of_both, HasNoSurplus, HasOneOfEach, program_form, both}
-use Rattle.bpaf_record.specs.Grammar.{begins_known, are_unusual, word_limit, GrammarOf, said_kind}
-use Rattle.bpaf_record.specs.Grammar.{takes_one, argument, fallback, IsWithin, optional, command}
-use Rattle.bpaf_record.specs.Grammar.{dressed, Grammar, keys_of, choice, closed, repeat, alone}
-use Rattle.bpaf_record.specs.Grammar.{other, flag, kept, last, only, says, word}
+use Rattle.bpaf_grammar.specs.Grammar.{product as con, command_words, FieldsGrammar, both}
+use Rattle.bpaf_grammar.specs.Grammar.{GrammarOf, argument, fallback, optional, command, dressed}
+use Rattle.bpaf_grammar.specs.Grammar.{Grammar, keys_of, choice, closed, repeat, alone, flag, kept}
+use Rattle.bpaf_grammar.specs.Grammar.{last, only, word, made, own, stretch}
+use Rattle.bpaf_record.specs.Program.{repeated_limit, limit_of_both, HasNoSurplus, HasOneOfEach}
+use Rattle.bpaf_record.specs.Program.{program_form, begins_known, are_unusual, word_limit}
+use Rattle.bpaf_record.specs.Program.{said_kind, takes_one, IsWithin, catches, default_closure}
+use Rattle.bpaf_record.specs.Program.{repeat_closure, step_closure, says}
 use Rattle.bpaf_laws.specs.Command.{opening_words}
 use Rattle.bpaf_record.proofs.GrammarSays.{grammar_owns, grammar_says}
 use Rattle.bpaf_exact.specs.Pieces as cut
@@ -51,20 +53,22 @@ one_piece : {T : Type 0} (g : Grammar T) (variables : Variables) → takes_one g
 one_piece (flag clones key present absent) variables one os v x = grind arith
 one_piece (argument means key) variables one os v x = grind (arith, not-true)
 one_piece (word means position metavar help) variables one os v x = grind arith
-one_piece (kept given) variables one os v x = absurd cc
-one_piece other variables one os v x = absurd cc
+one_piece (kept clones value) variables one os v x = absurd cc
+one_piece (own o) variables one os v x = absurd cc
+one_piece (made makes g) variables one os v x = absurd cc
+one_piece (stretch first g) variables one os v x = absurd cc
 one_piece (closed f g) variables one os v x = one_piece g variables one os x.from x.told
 one_piece (dressed look g) variables one os v x = one_piece g variables one os v x
 one_piece (optional catch g) variables one os v x = grind (arith, one_piece g variables one os)
-one_piece (fallback shown f g) variables one os v x = grind (arith, one_piece g variables one os)
-one_piece (repeat catch needed f g) variables one os v x = absurd cc
+one_piece (fallback shown d g) variables one os v x = grind (arith, one_piece g variables one os)
+one_piece (repeat f g) variables one os v x = absurd cc
 one_piece (last g) variables one os v x = absurd cc
 one_piece (choice g h) variables one os v x =
     let each = and_parts (takes_one g) (takes_one h) one in
     grind (arith, one_piece g variables each.0 os, one_piece h variables each.1 os)
 one_piece (only g) variables one os v x = one_piece g variables one os v x
 one_piece (command adjacent called info help g) variables one os v x = absurd cc
-one_piece (made f g) variables one os v x = absurd cc
+one_piece (con f g) variables one os v x = absurd cc
 
 -- a test passes only what begins with a key with one of these names
 record OnlyKeys (names : List Names) (test : LinePiece → Bool) : Type 0 where
@@ -76,19 +80,19 @@ KeepsNoMore names os more = (test : LinePiece → Bool) → OnlyKeys names test
     → length (filter test os) ≤ length (filter test more)
 
 -- names of the one field are those of both
-of_first : (own others : List Names) (test : LinePiece → Bool) → OnlyKeys own test
-    → OnlyKeys (own ++ others) test
-of_first own behind test is = record {
-  begins = λ o e. list_any-append (λ names. is_key_of names (first_item o)) own behind
+of_first : (ours others : List Names) (test : LinePiece → Bool) → OnlyKeys ours test
+    → OnlyKeys (ours ++ others) test
+of_first ours behind test is = record {
+  begins = λ o e. list_any-append (λ names. is_key_of names (first_item o)) ours behind
       ∙ or_left _ (is_key_of_any behind (first_item o)) (is.begins o e);
 }
 
 -- of the others too
-of_others : (own others : List Names) (test : LinePiece → Bool) → OnlyKeys others test
-    → OnlyKeys (own ++ others) test
-of_others own behind test is = record {
-  begins = λ o e. list_any-append (λ names. is_key_of names (first_item o)) own behind
-      ∙ or_right (is_key_of_any own (first_item o)) _ (is.begins o e);
+of_others : (ours others : List Names) (test : LinePiece → Bool) → OnlyKeys others test
+    → OnlyKeys (ours ++ others) test
+of_others ours behind test is = record {
+  begins = λ o e. list_any-append (λ names. is_key_of names (first_item o)) ours behind
+      ∙ or_right (is_key_of_any ours (first_item o)) _ (is.begins o e);
 }
 
 -- of pieces with no more keys there is no more than one either
@@ -102,7 +106,7 @@ one_of_fewer (both g h) os more fewer has = (
   one_of_fewer h os more
       (λ test is. fewer test (of_others (keys_of g true) (keys_of h true) test is)) has.1,
 )
-one_of_fewer (made f g) os more fewer has = one_of_fewer g os more fewer has
+one_of_fewer (con f g) os more fewer has = one_of_fewer g os more fewer has
 one_of_fewer g os more fewer has = λ one.
     let few = fewer (λ o. is_key_of_any (keys_of g true) (first_item o))
     (record { begins = λ o e. e }) in
@@ -131,17 +135,17 @@ product_takes _ = refl
 no_keys_of_words : {T : Type 0} (g : Grammar T) (variables : Variables)
     → takes_words (said_kind g variables) ≡ true → keys_of g true ≡ []
 no_keys_of_words (word means position metavar help) variables is = refl
-no_keys_of_words (kept given) variables is = refl
-no_keys_of_words other variables is = refl
+no_keys_of_words (kept clones value) variables is = refl
+no_keys_of_words (own o) variables is = refl
 no_keys_of_words (closed f g) variables is = no_keys_of_words g variables is
 no_keys_of_words (dressed look g) variables is = no_keys_of_words g variables is
 no_keys_of_words (optional catch g) variables is = no_keys_of_words g variables is
-no_keys_of_words (fallback shown f g) variables is = no_keys_of_words g variables is
-no_keys_of_words (repeat catch needed f g) variables is =
+no_keys_of_words (fallback shown d g) variables is = no_keys_of_words g variables is
+no_keys_of_words (repeat f g) variables is =
     no_keys_of_words g variables (sym (repeated_takes (said_kind g variables)) ∙ is)
 no_keys_of_words (last g) variables is =
     no_keys_of_words g variables (sym (repeated_takes (said_kind g variables)) ∙ is)
-no_keys_of_words (made f g) variables is =
+no_keys_of_words (con f g) variables is =
     absurd (true≢false (sym is ∙ product_takes (program_form g variables)))
 no_keys_of_words _ variables is = absurd cc
 
@@ -176,7 +180,7 @@ mutual
   parser_once : {T : Type 0} (g : Grammar T) (variables : Variables) (os : List LinePiece) (v : T)
       → says g variables os v → HasOneOfEach g os
   parser_once (dressed look g) variables os v x = parser_once g variables os v x
-  parser_once (made f g) variables os v x =
+  parser_once (con f g) variables os v x =
       fields_once g variables os (unkeyed (keys_of g true) os) x.from x.fields
   parser_once g variables os v x = λ one.
       let few = kept_fewer (λ o. is_key_of_any (keys_of g true) (first_item o)) os in
@@ -325,53 +329,53 @@ whole_limit (product wide named q fields) h = h
 whole_limit s h = alone_limit (program_field s) (field_limit s h)
 
 -- a choice of two
-choice_limit : {T : Type 0} (limit : Option ℕ) (own others : List Names)
+choice_limit : {T : Type 0} (limit : Option ℕ) (ours others : List Names)
     (words more : List (List ℕ)) (s t : ProgramForm T)
-    → HasLimit limit (program_choice own others words more s t)
-choice_limit limit own behind words more s t = grind (arith, if_limit)
+    → HasLimit limit (program_choice ours others words more s t)
+choice_limit limit ours behind words more s t = grind (arith, if_limit)
 
 -- what may stand in one
 only_limit : {T : Type 0} (limit : Option ℕ) (s : ProgramForm T) → HasLimit limit (choice_only s)
 only_limit limit s = grind arith
 
 -- what a field and those behind it leave to others is within both limits
-pair_limit : {A B : Type 0} (a b : Option ℕ) (own : List Names) {behind : List Names}
+pair_limit : {A B : Type 0} (a b : Option ℕ) (ours : List Names) {behind : List Names}
     (k : FieldKind) (q : Roles) {r : Roles} (first : List LinePiece → A → Type 0)
     (rest : FieldsReading B) → KindWords a k
     → ((os : List LinePiece) (v : B) → rest.value os v → IsWithin b (length (others r os)))
-    → Owns r behind → may_follow k own behind ≡ true → (os : List LinePiece) (v : A × B)
+    → Owns r behind → may_follow k ours behind ≡ true → (os : List LinePiece) (v : A × B)
     → (both_reading k q first rest).value os v
     → IsWithin (limit_of_both a b) (length (others (either (keys k q) r) os))
-pair_limit a b own ByName q {r} first rest h each owns may os v m =
+pair_limit a b ours ByName q {r} first rest h each owns may os v m =
     subst (λ z. IsWithin (limit_of_both a b) (length z)) (others_both q r os)
     (of_rest_within a b _ (each (others q os) v.1 m.1))
-pair_limit a b own {behind} (OneWord stops) q {r} first rest h each owns may os v m =
-    let none = none_behind own behind owns may in
+pair_limit a b ours {behind} (OneWord stops) q {r} first rest h each owns may os v m =
+    let none = none_behind ours behind owns may in
     subst (λ z. IsWithin (limit_of_both a b) (length z))
     (sym (others_none (either no_roles r) none os))
     (one_more_within a b (length (left (OneWord stops) q os)) (length os) h
     (subst (λ z. IsWithin b (length z)) (others_none r none (left (OneWord stops) q os))
     (each (left (OneWord stops) q os) v.1 m.1)) (one_gone stops q os))
-pair_limit a b own (EachWord stops) q {r} first rest h each owns may os v m =
+pair_limit a b ours (EachWord stops) q {r} first rest h each owns may os v m =
     subst (λ z. IsWithin (limit_of_both z b) (length (others (either no_roles r) os))) (sym h) tt
 
 -- a field before others
-both_limit : {A B : Type 0} {a b : Option ℕ} (own behind : List Names) (s : ProgramForm A)
+both_limit : {A B : Type 0} {a b : Option ℕ} (ours behind : List Names) (s : ProgramForm A)
     (t : ProgramForm B) → HasLimit a s → HasLimit b t → OwnsKeys behind t
-    → HasLimit (limit_of_both a b) (program_both own behind s t)
-both_limit {a = a} {b} own behind (complete wide k q first) (product broad named r rest) h g owns =
-    held (may_follow k own behind) _ (λ may. record {
-      by = pair_limit a b own k q first rest h.by g.by owns.by may;
+    → HasLimit (limit_of_both a b) (program_both ours behind s t)
+both_limit {a = a} {b} ours behind (complete wide k q first) (product broad named r rest) h g owns =
+    held (may_follow k ours behind) _ (λ may. record {
+      by = pair_limit a b ours k q first rest h.by g.by owns.by may;
     })
   where
     held : {V : Type 0} {limit : Option ℕ} (b : Bool) (s : ProgramForm V)
         → (b ≡ true → HasLimit limit s) → HasLimit limit (program_if b s)
     held true s h = h refl
     held false s h = record { by = tt }
-both_limit {A} {B} own behind (complete wide ByName q first) (before_commands rest) h g owns =
-    if_limit (are_all_apart own behind) {s = before_commands (FieldThen A B q first rest)}
+both_limit {A} {B} ours behind (complete wide ByName q first) (before_commands rest) h g owns =
+    if_limit (are_all_apart ours behind) {s = before_commands (FieldThen A B q first rest)}
     (record { by = tt })
-both_limit own behind _ _ h g owns = record { by = tt }
+both_limit ours behind _ _ h g owns = record { by = tt }
 
 -- a form of what is made so is within its limit
 grammar_limit : {fields : Bool} {T : Type 0} (g : GrammarOf fields T) (variables : Variables)
@@ -382,16 +386,18 @@ grammar_limit (argument means key) variables =
     key_limit _ (key.adjacent || not (is_nil key.named.envs))
     (is_nil key.named.envs && not key.last) _ _ _ _
 grammar_limit (word means position metavar help) variables = record { by = omega arith }
-grammar_limit (kept given) variables = record { by = tt }
-grammar_limit other variables = record { by = tt }
-grammar_limit (closed f g) variables = closed_limit _ (grammar_limit g variables) f
+grammar_limit (kept clones value) variables = record { by = tt }
+grammar_limit (own o) variables = record { by = tt }
+grammar_limit (made makes g) variables = record { by = tt }
+grammar_limit (stretch first g) variables = record { by = tt }
+grammar_limit (closed f g) variables = closed_limit _ (grammar_limit g variables) (step_closure f)
 grammar_limit (dressed look g) variables = dressed_limit _ (grammar_limit g variables)
 grammar_limit (optional catch g) variables =
     if_limit (not catch) (optional_limit _ (grammar_limit g variables))
-grammar_limit (fallback {T = T} shown f g) variables =
-    default_limit _ (grammar_limit g variables) (λ group gap. FallbackValue T group gap f)
-grammar_limit (repeat {A = A} catch needed f g) variables =
-    if_limit (not catch) (closed_limit _ (repeat_limit _ (grammar_limit g variables) (OwnList A)) f)
+grammar_limit (fallback {T = T} shown d g) variables = default_limit _ (grammar_limit g variables)
+    (λ group gap. FallbackValue T group gap (default_closure d))
+grammar_limit (repeat {A = A} f g) variables = if_limit (not (catches f))
+    (closed_limit _ (repeat_limit _ (grammar_limit g variables) (OwnList A)) (repeat_closure f))
 grammar_limit (last {T = T} g) variables = repeat_limit _ (grammar_limit g variables) (LastOf T)
 grammar_limit (choice g h) variables = choice_limit _ (keys_of g true) (keys_of h true)
     (command_words g) (command_words h) (program_form g variables) (program_form h variables)
@@ -405,7 +411,8 @@ grammar_limit (alone g) variables = alone_limit _ (field_limit _ (grammar_limit 
 grammar_limit (both g h) variables = both_limit (keys_of g true) (keys_of h true) _ _
     (field_limit _ (grammar_limit g variables)) (grammar_limit h variables)
     (grammar_owns h variables)
-grammar_limit (made f g) variables = con_limit _ (grammar_limit g variables) f
+grammar_limit (con makes g) variables =
+    con_limit _ (grammar_limit g variables) (map_closure makes)
 
 -- a key that begins a piece of a cut line is one of those
 cut_known : {r : Roles} {names : List Names} → Owns r names → {cs : Cells} {os : List LinePiece}

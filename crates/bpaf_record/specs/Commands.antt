@@ -11,13 +11,13 @@ use Rattle.bpaf_line.specs.declared.error.Message.{Message}
 use Rattle.bpaf_laws.specs.Command.{opening_words, IsOpenedAt, Called, inside}
 use Rattle.bpaf_laws.specs.Reading.{Outcome}
 use Rattle.bpaf_parts.specs.Failures.{end_message}
-use Rattle.bpaf_core.specs.Command.{EitherCommandOutcome, CommandOutcome, no_memory, missing, value}
-use Rattle.bpaf_core.specs.Command.{ended}
+use Rattle.bpaf_grammar.specs.Command.{EitherCommandOutcome, CommandOutcome, no_memory, missing, value}
+use Rattle.bpaf_grammar.specs.Command.{ended}
 use Rattle.bpaf.specs.Leftover.{not_expected, IsLeftover, only_once, conflict}
 use Rattle.bpaf.specs.Ending.{leftover as told_leftover, refused as told_refusal, passed_on, memory}
 use Rattle.bpaf.specs.Positional.{PositionalOutcome, PositionalFails, accepts}
 use Rattle.bpaf.specs.{Run.value as ran_value, Run.leftover, Run.refused, Run.Runs, Info.RunInfo}
-use Rattle.bpaf.specs.{declared.leaves.positional.Position.Position, Ending.EndsRun, Ending.usage}
+use Rattle.bpaf_grammar.specs.{declared.position.Position.Position, Ending.EndsRun, Ending.usage}
 use Rattle.bpaf_exact.proofs.ProgramForm.{program_command_law, narrower_form, no_more}
 use Rattle.bpaf_exact.proofs.Leaves.{stands_before, word_by_law, word_is}
 use Rattle.bpaf_exact.proofs.{Classes.memory_class, Classes.not_memory, Places.open_counted}

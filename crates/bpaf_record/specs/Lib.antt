@@ -1,4 +1,4 @@
 pub mod Part
 pub mod Record
 pub mod Commands
-pub mod Grammar
+pub mod Program

@@ -18,7 +18,8 @@ use Rattle.bpaf_exact.specs.ProgramForm.{whole_program, program_value, ProgramFo
 use Rattle.bpaf_exact.specs.ProgramForm.{line_cells, RunAnswer, is_record, Accepted, NoMemory}
 use Rattle.bpaf_exact.specs.ProgramForm.{Refusal}
 use Rattle.bpaf_exact.specs.Pieces.{LinePiece, Cut}
-use Rattle.bpaf_record.specs.Grammar.{HasNoSurplus, program_form, are_unusual, scope_says, Grammar}
+use Rattle.bpaf_grammar.specs.Grammar.{Grammar}
+use Rattle.bpaf_record.specs.Program.{HasNoSurplus, program_form, are_unusual, scope_says}
 use Rattle.bpaf_line.specs.declared.failure.ParseFailure.TheVariants as failure
 
 -- a flat record none of whose keys shares a name with those of help and version

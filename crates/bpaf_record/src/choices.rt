@@ -1,11 +1,11 @@
 //! Choices of fields, and of commands.
 ghost use Rattle.std.specs.Prelude.{◌≡◌, ◌≤◌, flat_map, length, take, true};
 ghost use Rattle.std.specs.List.{list_all};
-ghost use Rattle.bpaf_exact.specs.{Flat.Variables, ProgramForm.EachAgrees};
-ghost use Rattle.bpaf_record.specs.Grammar.{choices_of, command_words, keys_of, program_form};
-ghost use Rattle.bpaf_record.specs.Grammar.{choice, only, choices_law};
+ghost use Rattle.bpaf_exact.specs.{Flat.Variables};
+ghost use Rattle.bpaf_grammar.specs.Grammar.{choices_of, command_words, keys_of};
+ghost use Rattle.bpaf_record.specs.Program.{program_form};
+ghost use Rattle.bpaf_grammar.specs.Grammar.{only};
 ghost use Rattle.bpaf_record.specs.Part.{form_part};
-ghost use Rattle.bpaf_exact.proofs.ProgramForm.{program_choice_law};
 
 use crate::field::{FlatField, ProgramField};
 use crate::keys::{ApartFromField, KeyTest};
@@ -17,10 +17,6 @@ use std::marker::PhantomData;
 /// Of required flags and arguments alone, whose names are apart; or of commands alone, whose words
 /// are.
 impl<T: Drop, A: ProgramField<T>, B: ProgramField<T>> ProgramField<T> for ParseOrElse<A, B> {
-    ghost grammar = { λ p. choice (A.grammar p.this) (B.grammar p.that) };
-
-    ghost agrees = { λ p. A.agrees p.this × B.agrees p.that };
-
     fn part(&self) -> ProgramPart {
         let keys_apart = self.this.all_keys(&ApartFromField {
             other: &self.that,
@@ -48,9 +44,6 @@ impl<T: Drop, A: ProgramField<T>, B: ProgramField<T>> ProgramField<T> for ParseO
         let that = self.that.all_words(test);
         this && that
     }
-
-    ghost law = { λ p a variables.
-        program_choice_law (A.law p.this a.0 variables) (B.law p.that a.1 variables) };
 }
 
 impl<T: Drop, A: FlatField<T>, B: FlatField<T>> FlatField<T> for ParseOrElse<A, B> {}
@@ -128,10 +121,6 @@ fn join_all<T, P: ProgramField<T>>(parsers: &[P]) -> ProgramPart
 /// Of required flags and arguments alone, whose names are apart; or of commands alone, whose words
 /// are. A choice of none is nothing.
 impl<T: Drop, P: ProgramField<T> + Drop> ProgramField<T> for ParseChoice<P> {
-    ghost grammar = { λ p. only (choices_of P.grammar p.parsers.items) };
-
-    ghost agrees = { λ p. EachAgrees P.agrees p.parsers.items };
-
     #[tactic(auto, using(crate::proofs::Parts::only_part_is))]
     fn part(&self) -> ProgramPart {
         join_all(self.parsers.as_slice()).only()
@@ -146,9 +135,6 @@ impl<T: Drop, P: ProgramField<T> + Drop> ProgramField<T> for ParseChoice<P> {
     fn all_words<W: WordTest>(&self, test: &W) -> bool {
         all_words_of::<T, P, W>(self.parsers.as_slice(), test)
     }
-
-    ghost law = { λ p a variables. choices_law P.grammar variables P.outcome P.agrees
-        (λ q b. P.law q b variables) p.parsers.items a };
 }
 
 impl<T: Drop, P: FlatField<T> + Drop> FlatField<T> for ParseChoice<P> {}

@@ -1,15 +1,16 @@
 //! Whether options are a program, perhaps with commands, and the run of one.
+ghost use Rattle.bpaf_grammar.specs.Words.{Answers, AnswersSpared, Deals, Refuses, names_of};
+ghost use Rattle.bpaf_record.specs.Program.{agrees_of};
 ghost use Rattle.std.specs.Prelude.{◌≡◌, Result, false, true, Bool, IfOk};
 ghost use Rattle.std.specs.Result.{IfErr};
 ghost use Rattle.bpaf_words.specs.Arguments.{given_of, Given};
-ghost use Rattle.bpaf_record.specs.Grammar.{keys_of, program_form};
+ghost use Rattle.bpaf_grammar.specs.Grammar.{keys_of};
+ghost use Rattle.bpaf_record.specs.Program.{program_form};
 ghost use Rattle.bpaf_record.specs.Record.{is_whole_program, AnswersAsProgram, TellsOfWords};
 ghost use Rattle.bpaf_record.specs.Record.{NoneUnless, ProgramRan};
 ghost use Rattle.bpaf_line.specs.declared.failure.ParseFailure.{ParseFailure};
-ghost use Rattle.bpaf.specs.Run.{IsNotWant, RunsWords, IsDealtOut, known_names};
-ghost use Rattle.bpaf.specs.Refusals.{IsOneOfTwelve};
+ghost use Rattle.bpaf.specs.Run.{IsNotWant};
 ghost use Rattle.bpaf_exact.specs.Flat.{Variables};
-ghost use Rattle.bpaf_laws.specs.Laws.{WithoutMemory};
 
 use crate::field::ProgramField;
 use crate::usual::are_unusual;
@@ -131,25 +132,21 @@ impl<T: Drop, P: ProgramField<T>> CommandLine<T> for OptionParser<T, P> {
 
     ghost can_run = { λ p. P.can_eval p.inner };
 
-    ghost agrees = { λ p. P.agrees p.inner };
+    ghost agrees = { λ p. agrees_of (P.grammar p.inner) };
 
-    ghost answers = { λ p given. RunsWords T (P.outcome p.inner) (P.describes p.inner) p.info
-        (known_names p.info (P.shorts p.inner)) given };
+    ghost answers = { λ p. Answers (P.grammar p.inner) p.info };
 
-    ghost refuses = { λ p given. IsOneOfTwelve (P.outcome p.inner) (P.describes p.inner) p.info
-        (known_names p.info (P.shorts p.inner)) given };
+    ghost refuses = { λ p. Refuses (P.grammar p.inner) p.info };
 
-    ghost deals = { λ p given.
-        IsDealtOut T (P.reads p.inner) (known_names p.info (P.shorts p.inner)) given };
+    ghost deals = { λ p. Deals (P.grammar p.inner) p.info };
 
-    ghost tells = { λ p given.
-        TellsOfWords (known_names p.info (P.shorts p.inner)) (P.grammar p.inner) given };
+    ghost tells = { λ p.
+        TellsOfWords (names_of (P.grammar p.inner) p.info) (P.grammar p.inner) };
 
-    ghost answers_spared = { λ p given. RunsWords T (WithoutMemory (P.outcome p.inner))
-        (P.describes p.inner) p.info (known_names p.info (P.shorts p.inner)) given };
+    ghost answers_spared = { λ p. AnswersSpared (P.grammar p.inner) p.info };
 
     ghost answers_as_program = { λ p given. AnswersAsProgram T
-        (known_names p.info (P.shorts p.inner))
+        (names_of (P.grammar p.inner) p.info)
         (program_form (P.grammar p.inner) given.env) given };
 
     fn run_program(&self, args: Args<'_>) -> Result<T, ParseFailure> {

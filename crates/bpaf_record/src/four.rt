@@ -1,7 +1,5 @@
 //! Four fields of a program at once.
 
-ghost use Rattle.bpaf_exact.proofs.ProgramForm.{program_both_law, program_field_law};
-
 use crate::field::{FlatField, FlatFields, ProgramField, ProgramFields};
 use crate::keys::KeyTest;
 use crate::part::ProgramPart;
@@ -19,14 +17,6 @@ impl<
     D: ProgramField<V>,
     R: ProgramFields<W>,
 > ProgramFields<FourValues<S, T, U, V, W>> for Four<A, B, C, D, R> {
-    ghost grammar = { λ p.
-        ⟦<FourFields<A, B, C, D, R> as ProgramFields<FourValues<S, T, U, V, W>>>⟧.grammar
-        p.fields };
-
-    ghost agrees = { λ p.
-        ⟦<FourFields<A, B, C, D, R> as ProgramFields<FourValues<S, T, U, V, W>>>⟧.agrees
-        p.fields };
-
     fn fields_part(&self) -> ProgramPart {
         self.fields.fields_part()
     }
@@ -34,13 +24,6 @@ impl<
     fn all_keys<N: KeyTest>(&self, test: &N) -> bool {
         self.fields.all_keys(test)
     }
-
-    ghost law = { λ p a variables. program_both_law
-        (program_field_law (A.law p.fields.first a.0 variables)) (program_both_law
-        (program_field_law (B.law p.fields.rest.first a.1.0 variables)) (program_both_law
-        (program_field_law (C.law p.fields.rest.rest.first a.1.1.0 variables)) (program_both_law
-        (program_field_law (D.law p.fields.rest.rest.rest.first a.1.1.1.0 variables))
-        (R.law p.fields.rest.rest.rest.rest a.1.1.1.1 variables)))) };
 }
 
 impl<

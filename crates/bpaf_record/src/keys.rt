@@ -3,7 +3,8 @@ ghost use Rattle.std.specs.Prelude.{◌≡◌, false, not, true, ◌&&◌, Bool,
 ghost use Rattle.std.specs.List.{list_all};
 ghost use Rattle.bpaf_base.specs.Items.{is_among, is_text_among};
 ghost use Rattle.bpaf_exact.specs.Pieces.{are_apart};
-ghost use Rattle.bpaf_record.specs.{Record.has_no_short, Record.has_no_long, Grammar.keys_of};
+ghost use Rattle.bpaf_grammar.specs.Grammar.{keys_of};
+ghost use Rattle.bpaf_record.specs.{Record.has_no_short, Record.has_no_long};
 ghost use Rattle.bpaf_doc.specs.Names.{Names};
 
 use crate::field::{ProgramField, ProgramFields};

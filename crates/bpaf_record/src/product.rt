@@ -1,10 +1,5 @@
 //! Products of fields.
-ghost use Rattle.std.specs.Prelude.{◌≡◌, true};
-ghost use Rattle.bpaf_record.specs.Grammar.{alone};
-ghost use Rattle.bpaf_record.specs.Grammar.{both, product};
-ghost use Rattle.bpaf_exact.specs.Flat.{map_closure};
-ghost use Rattle.bpaf_exact.proofs.ProgramForm.{program_alone_law, program_both_law};
-ghost use Rattle.bpaf_exact.proofs.ProgramForm.{program_con_law, program_field_law};
+ghost use Rattle.std.specs.Prelude.{true};
 
 use crate::field::{FlatField, FlatFields, ProgramField, ProgramFields};
 use crate::keys::{ApartFromFields, KeyTest, NoKey};
@@ -15,10 +10,6 @@ use bpaf::{Both, Constructor, Last};
 use std::marker::PhantomData;
 
 impl<T: Drop, A: ProgramField<T>> ProgramFields<T> for Last<A> {
-    ghost grammar = { λ p. alone (A.grammar p.last) };
-
-    ghost agrees = { λ p. A.agrees p.last };
-
     #[tactic(auto, using(crate::proofs::Parts::alone_part_is))]
     fn fields_part(&self) -> ProgramPart {
         self.last.part().field().last()
@@ -27,9 +18,6 @@ impl<T: Drop, A: ProgramField<T>> ProgramFields<T> for Last<A> {
     fn all_keys<N: KeyTest>(&self, test: &N) -> bool {
         self.last.all_keys(test)
     }
-
-    ghost law = { λ p a variables.
-        program_alone_law (program_field_law (A.law p.last a variables)) };
 }
 
 impl<T: Drop, A: FlatField<T>> FlatFields<T> for Last<A> {}
@@ -37,10 +25,6 @@ impl<T: Drop, A: FlatField<T>> FlatFields<T> for Last<A> {}
 /// Where a named field stands behind a positional one, a positional one before commands, or two
 /// share a name, they are nothing.
 impl<T: Drop, V, A: ProgramField<T>, R: ProgramFields<V>> ProgramFields<(T, V)> for Both<A, R> {
-    ghost grammar = { λ p. both (A.grammar p.first) (R.grammar p.rest) };
-
-    ghost agrees = { λ p. A.agrees p.first × R.agrees p.rest };
-
     fn fields_part(&self) -> ProgramPart {
         let apart = self.first.all_keys(&ApartFromFields {
             others: &self.rest,
@@ -57,18 +41,11 @@ impl<T: Drop, V, A: ProgramField<T>, R: ProgramFields<V>> ProgramFields<(T, V)> 
         let rest = self.rest.all_keys(test);
         first && rest
     }
-
-    ghost law = { λ p a variables. program_both_law
-        (program_field_law (A.law p.first a.0 variables)) (R.law p.rest a.1 variables) };
 }
 
 impl<T: Drop, V, A: FlatField<T>, R: FlatFields<V>> FlatFields<(T, V)> for Both<A, R> {}
 
 impl<V, T, P: ProgramFields<V>, M: Constructor<V, T>> ProgramField<T> for ParseCon<V, P, M> {
-    ghost grammar = { λ p. product (map_closure (M.makes p.make)) (P.grammar p.fields) };
-
-    ghost agrees = { λ p. P.agrees p.fields };
-
     #[tactic(auto, using(crate::proofs::Parts::con_part_is))]
     fn part(&self) -> ProgramPart {
         self.fields.fields_part().made()
@@ -81,9 +58,6 @@ impl<V, T, P: ProgramFields<V>, M: Constructor<V, T>> ProgramField<T> for ParseC
     fn all_words<W: WordTest>(&self, _test: &W) -> bool {
         true
     }
-
-    ghost law = { λ p a variables. program_con_law (M.makes p.make)
-        (P.law p.fields a variables) };
 }
 
 impl<V, T, P: FlatFields<V>, M> FlatField<T> for ParseCon<V, P, M> {}

@@ -1,11 +1,13 @@
 //! Whether options are a flat record, and the run of one.
+ghost use Rattle.bpaf_grammar.specs.Words.{names_of};
 ghost use Rattle.std.specs.Prelude.{◌≡◌, Result, false, true, Bool, IfOk};
 ghost use Rattle.std.specs.Result.{IfErr};
 ghost use Rattle.bpaf_words.specs.Arguments.{given_of, Given};
-ghost use Rattle.bpaf_record.specs.Grammar.{keys_of, program_form};
+ghost use Rattle.bpaf_grammar.specs.Grammar.{keys_of};
+ghost use Rattle.bpaf_record.specs.Program.{program_form};
 ghost use Rattle.bpaf_record.specs.Record.{is_flat_record, AnswersByFields, NoneUnless, ProgramRan};
 ghost use Rattle.bpaf_line.specs.declared.failure.ParseFailure.{ParseFailure};
-ghost use Rattle.bpaf.specs.Run.{IsNotWant, known_names};
+ghost use Rattle.bpaf.specs.Run.{IsNotWant};
 ghost use Rattle.bpaf_exact.specs.Flat.{Variables};
 
 use crate::command_line::CommandLine;
@@ -102,7 +104,7 @@ impl<T: Drop, P: ProgramField<T> + FlatField<T>> Record<T> for OptionParser<T, P
     }
 
     ghost answers_by_fields = { λ p given. AnswersByFields T
-        (known_names p.info (P.shorts p.inner)) (P.grammar p.inner) given };
+        (names_of (P.grammar p.inner) p.info) (P.grammar p.inner) given };
 
     #[tactic(auto, using(crate::proofs::Running::flat_is_whole))]
     fn run_record(&self, args: Args<'_>) -> Result<T, ParseFailure> {

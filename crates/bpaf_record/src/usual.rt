@@ -1,7 +1,8 @@
 //! Whether the keys of a parser are apart from those of help and version.
 ghost use Rattle.std.specs.{Prelude.◌≡◌, Prelude.false, List.list_all};
 ghost use Rattle.bpaf_exact.specs.Pieces.{are_apart};
-ghost use Rattle.bpaf_record.specs.{Grammar.are_unusual, Grammar.keys_of};
+ghost use Rattle.bpaf_grammar.specs.Grammar.{keys_of};
+ghost use Rattle.bpaf_record.specs.Program.{are_unusual};
 
 use crate::field::ProgramField;
 use crate::keys::{ApartFrom, ApartFromUsual};

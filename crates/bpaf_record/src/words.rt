@@ -3,7 +3,7 @@ ghost use Rattle.std.specs.Prelude.{◌≡◌, ◌++◌, not, bytes_eq, encode_u
 ghost use Rattle.std.specs.List.{list_all};
 ghost use Rattle.bpaf_laws.specs.Command.{opening_words};
 ghost use Rattle.bpaf_exact.specs.ProgramForm.{is_dashed};
-ghost use Rattle.bpaf_record.specs.Grammar.{command_words};
+ghost use Rattle.bpaf_grammar.specs.Grammar.{command_words};
 
 use crate::field::ProgramField;
 use bpaf::Text;

@@ -9,8 +9,8 @@ use Rattle.bpaf_text.specs.Meaning.{SpellsSigned, SpellsUnsigned}
 use Rattle.bpaf_words.specs.Arguments.{Given}
 use Rattle.bpaf_laws.specs.Command.{named_only}
 use Rattle.bpaf_keys.specs.Info.{RunInfo, plain_info, short_descr}
-use Rattle.bpaf.specs.declared.leaves.positional.Position.TheVariants.{Unrestricted}
-use Rattle.bpaf_record.specs.Grammar.{FieldsGrammar, Grammar, alone, both, choice, command, word}
+use Rattle.bpaf_grammar.specs.declared.position.Position.TheVariants.{Unrestricted}
+use Rattle.bpaf_grammar.specs.Grammar.{FieldsGrammar, Grammar, alone, both, choice, command, word}
 use Rattle.bpaf_program.specs.KnownParser.{IsDealtBy, IsPageOf, help_of, known_con, known_many}
 use Rattle.bpaf_program.specs.{KnownParser.known_map, KnownParser.known_switch, Ending.line}
 use Rattle.example_chain.specs.declared.steps.Step.{Step}

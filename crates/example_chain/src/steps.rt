@@ -36,9 +36,7 @@ type Repeat = ParseCommand<u64, Number>;
 /// `move DX DY`; refused only for want of memory.
 fn go(alloc: Global) -> Result<Go, AllocError>
     ensures { IfOk result (λ command. IsKnownParser go_parser
-        (⟦<Go as Parser<(i64, i64)>>⟧.outcome command) (⟦<Go as Parser<(i64, i64)>>⟧.reads command)
-        (⟦<Go as Parser<(i64, i64)>>⟧.describes command)
-        (⟦<Go as Parser<(i64, i64)>>⟧.shorts command)) }
+        (⟦<Go as Parser<(i64, i64)>>⟧.grammar command)) }
 {
     let dx = positional::<i64>("DX").help("How far to the right");
     let dy = positional::<i64>("DY").help("How far up");
@@ -49,10 +47,7 @@ fn go(alloc: Global) -> Result<Go, AllocError>
 /// `turn [--left] DEGREES`; refused only for want of memory.
 fn turn(alloc: Global) -> Result<Turn, AllocError>
     ensures { IfOk result (λ command. IsKnownParser turn_parser
-        (⟦<Turn as Parser<(bool, u64)>>⟧.outcome command)
-        (⟦<Turn as Parser<(bool, u64)>>⟧.reads command)
-        (⟦<Turn as Parser<(bool, u64)>>⟧.describes command)
-        (⟦<Turn as Parser<(bool, u64)>>⟧.shorts command)) }
+        (⟦<Turn as Parser<(bool, u64)>>⟧.grammar command)) }
 {
     let left = long_key(alloc, "left").switch().help("To the left");
     let degrees = positional::<u64>("DEGREES").help("How far to turn");
@@ -64,9 +59,7 @@ fn turn(alloc: Global) -> Result<Turn, AllocError>
 /// `repeat N`; refused only for want of memory.
 fn repeat(alloc: Global) -> Result<Repeat, AllocError>
     ensures { IfOk result (λ command. IsKnownParser repeat_parser
-        (⟦<Repeat as Parser<u64>>⟧.outcome command) (⟦<Repeat as Parser<u64>>⟧.reads command)
-        (⟦<Repeat as Parser<u64>>⟧.describes command)
-        (⟦<Repeat as Parser<u64>>⟧.shorts command)) }
+        (⟦<Repeat as Parser<u64>>⟧.grammar command)) }
 {
     let times = positional::<u64>("N").help("How many times");
     let command = chained(alloc, "repeat", "Repeats all before it", times)?;

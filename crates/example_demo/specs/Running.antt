@@ -8,9 +8,9 @@ use Rattle.bpaf_text.specs.Named.{KeyWithValue, key_named}
 use Rattle.bpaf_words.specs.Arguments.{Given}
 use Rattle.bpaf_line.specs.declared.failure.ParseFailure.{ParseFailure}
 use Rattle.bpaf_keys.specs.Info.{plain_info}
-use Rattle.bpaf.specs.declared.leaves.positional.Position.TheVariants.{Unrestricted}
+use Rattle.bpaf_grammar.specs.declared.position.Position.TheVariants.{Unrestricted}
 use Rattle.bpaf.specs.Asked.{IfShown}
-use Rattle.bpaf_record.specs.Grammar.{FieldsGrammar, argument, Grammar, alone, both, word}
+use Rattle.bpaf_grammar.specs.Grammar.{FieldsGrammar, argument, Grammar, alone, both, word}
 use Rattle.bpaf_program.specs.KnownParser.{known_switch, known_many, IsExactFor, MeansText, String}
 use Rattle.bpaf_program.specs.KnownParser.{known_con, IsDealtBy, IsPageOf, IsValueBy, help_of}
 use Rattle.bpaf_program.specs.Fields.{helped_argument}

@@ -4,9 +4,9 @@ use Rattle.std.specs.Global.{Vec}
 use Rattle.bpaf_doc.specs.{declared.doc.Piece.Piece, Names.Names}
 use Rattle.bpaf_text.specs.{Meaning.SpellsUnsigned, Named.KeyWithValue}
 use Rattle.bpaf_words.specs.{Arguments.Given, Line.Known}
-use Rattle.bpaf.specs.declared.leaves.positional.Position.TheVariants.{Unrestricted}
+use Rattle.bpaf_grammar.specs.declared.position.Position.TheVariants.{Unrestricted}
 use Rattle.bpaf.specs.Info.{plain_info}
-use Rattle.bpaf_record.specs.Grammar.{FieldsGrammar, argument, Grammar, alone, both, word}
+use Rattle.bpaf_grammar.specs.Grammar.{FieldsGrammar, argument, Grammar, alone, both, word}
 use Rattle.bpaf_program.specs.KnownParser.{known_optional, program_names, known_many, MeansText}
 use Rattle.bpaf_program.specs.KnownParser.{known_con, IsPageOf, String}
 use Rattle.bpaf_program.specs.Fields.{plain_argument}

@@ -1,12 +1,15 @@
 -- A pair of keys of which one turns something on and the other turns it off.
-use Rattle.std.specs.Prelude.{◌≡◌, ℕ, Bool, true, false, Ok, Err, Option, Some, None}
+use Rattle.std.specs.Prelude.{◌≡◌, ℕ, Bool, true, false, Ok, Err, Option, Some, None, refl}
 use Rattle.bpaf_doc.specs.Names.{Names}
 use Rattle.bpaf_base.specs.Items.{is_key_of}
 use Rattle.bpaf_line.specs.Situation.{Situation, Context, is_open}
 use Rattle.bpaf_line.specs.Taking.{TakesFlag}
 use Rattle.bpaf_line.proofs.Places.{match_is_open, match_has_item}
 use Rattle.bpaf_laws.specs.Reading.{Share, Readings, Outcome, HasItem, IsPlace, IsEmptyShare}
-use Rattle.bpaf_laws.specs.Laws.{Reads, Lawful}
+use Rattle.bpaf_laws.specs.Laws.{Reads, Lawful, no_shorts}
+use Rattle.bpaf_laws.proofs.ShownNames.{one_shape}
+use Rattle.bpaf_doc.specs.Shape.{Skip}
+use Rattle.bpaf.specs.Own.{Own}
 use Rattle.bpaf_laws.proofs.Keeping.{closes_take, keeps_take, newly_take, newly_none, reads_same}
 use Rattle.std.proofs.Common.{sym, subst}
 
@@ -63,3 +66,16 @@ module _ (on off : Names) where
     err = λ s t e o. absurd o;
     named = λ s t e o. absurd o;
   }
+
+-- a toggle of keys with these names, which shows nothing and refuses nothing
+abbrev pub toggle : (on off : Names) → Own (Option Bool)
+toggle on off = record {
+  outcome = ToggleOutcome on off;
+  reads = ToggleReads on off;
+  describes = λ shape. shape ≡ Skip;
+  shorts = no_shorts;
+  spared = ToggleOutcome on off;
+  lawful = toggle_lawful on off;
+  shows = one_shape refl;
+  spares = λ s t r o. o;
+}

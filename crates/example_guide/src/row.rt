@@ -1,8 +1,9 @@
 //! A row of a test: a program, and words that are lent.
 ghost use Rattle.std.specs.Prelude.{◌≡◌, false, true};
 ghost use Rattle.bpaf_words.specs.Arguments.{given_of};
-ghost use Rattle.bpaf.specs.Run.{known_names};
-ghost use Rattle.bpaf_record.specs.Grammar.{keys_of, program_form};
+ghost use Rattle.bpaf_grammar.specs.Words.{names_of};
+ghost use Rattle.bpaf_grammar.specs.Grammar.{keys_of};
+ghost use Rattle.bpaf_record.specs.Program.{agrees_of, program_form};
 ghost use Rattle.bpaf_record.specs.Record.{IsProgramValueOf, is_whole_program, IsValueOrWant};
 
 use bpaf::{Args, OptionParser, ParseFailure, Parser, short_key};
@@ -17,11 +18,11 @@ pub fn answer_row<T: Drop, P: ProgramField<T>>(
     args: Args<'_>,
 ) -> Result<T, ParseFailure>
     requires can { P.can_eval options.now.inner }
-    requires agrees { P.agrees options.now.inner }
+    requires agrees { agrees_of (P.grammar options.now.inner) }
     requires program { is_whole_program (program_form (P.grammar options.now.inner) (given_of args).env)
         (keys_of (P.grammar options.now.inner) false) options.now.info ≡ true }
     ensures { let form = program_form (P.grammar options.now.inner) (given_of args.entry).env in
-        let known = known_names options.now.info (P.shorts options.now.inner) in
+        let known = names_of (P.grammar options.now.inner) options.now.info in
         let is_value = IsProgramValueOf known form (given_of args.entry) in
         (value : T) → is_value value → IsValueOrWant is_value result }
 {

@@ -16,21 +16,12 @@ pub struct Toggle {
 /// shows nothing, so its keys have long names alone: short ones of joined words are known by what
 /// is shown.
 impl Parser<Option<bool>> for Toggle {
-    ghost use Rattle.std.specs.Prelude.{◌≡◌, refl};
-    ghost use Rattle.bpaf_doc.specs.Shape.{Skip};
-    ghost use Rattle.bpaf_laws.specs.Laws.{no_shorts};
-    ghost use Rattle.bpaf_laws.proofs.ShownNames.{one_shape};
-    ghost use Rattle.example_guide.specs.Toggle.{ToggleReads, ToggleOutcome, toggle_lawful};
+    ghost use Rattle.bpaf.specs.Grammar.{own};
+    ghost use Rattle.example_guide.specs.Toggle.{toggle};
 
     ghost can_eval = { λ p. Unit {0} };
 
-    ghost describes = { λ p shape. shape ≡ Skip };
-
-    ghost shorts = { λ p. no_shorts };
-
-    ghost reads = { λ p. ToggleReads p.on.names p.off.names };
-
-    ghost outcome = { λ p. ToggleOutcome p.on.names p.off.names };
+    ghost grammar = { λ p. own (toggle p.on.names p.off.names) };
 
     fn eval(&self, state: &mut State) -> Result<Option<bool>, Error> {
         if state.take_flag(self.on.shorts(), self.on.longs()) {
@@ -45,10 +36,6 @@ impl Parser<Option<bool>> for Toggle {
     fn meta(&self, _alloc: Global) -> Result<Meta, AllocError> {
         Ok(Meta::Skip)
     }
-
-    ghost lawful = { λ p. toggle_lawful p.on.names p.off.names };
-
-    ghost shows = { λ p. one_shape refl };
 }
 
 /// Whether the words turn the colour on or off, by `--color` and `--no-color`.

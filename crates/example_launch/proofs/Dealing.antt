@@ -1,21 +1,20 @@
 -- A value that a run deals out of the words is a launch that they ask for; all print the same
 -- lines.
-use Rattle.std.proofs.Common.{[], ◌++◌, All, Bool, IsUtf8, List, ap, codes, ℕ, ◌≡◌, None, IfOk, Ok}
+use Rattle.std.proofs.Common.{◌++◌, All, Bool, IsUtf8, List, ap, codes, ℕ, ◌≡◌, None, IfOk, Ok}
 use Rattle.std.proofs.Common.{Err, Result, map, inl, inr, string_bytes, subst, sym, true≢false, ◌∙◌}
-use Rattle.bpaf.specs.declared.leaves.positional.Position.TheVariants.{NonStrict, Strict}
+use Rattle.bpaf_grammar.specs.declared.position.Position.TheVariants.{NonStrict, Strict}
 use Rattle.bpaf.specs.{Marker.words_before, Marker.words_behind, Positional.accepts}
 use Rattle.bpaf_exact.specs.ProgramForm.{WordValue, flag_roles}
 use Rattle.bpaf_exact.specs.Flat.{FrontOf, SingleValue, gap_of}
 use Rattle.bpaf_exact.specs.{Pieces.LinePiece, Pieces.others, Says.Alike, Says.WordSays}
 use Rattle.bpaf_program.specs.Ending.{line, line_each, truth}
 use Rattle.bpaf_program.specs.KnownParser.{MeansText, String, program_names}
-use Rattle.bpaf_program.proofs.LookAlike.{alone_seen, both_seen, con_seen, field_seen, many_seen}
-use Rattle.bpaf_program.proofs.LookAlike.{switch_seen, text_word_seen, program_looks_one}
-use Rattle.bpaf_program.proofs.{LookAlike.values_look, WordsBefore.word_before, Texts.texts_are}
+use Rattle.bpaf_program.proofs.{WordsBefore.word_before, Texts.texts_are}
+use Rattle.bpaf_program.proofs.OfCommands as of
 use Rattle.example_launch.specs.Running.{dry_run_names, launch_of, launcher, program_given}
 use Rattle.example_launch.specs.Running.{verbose_names, IsLaunchValue, lines, IsDealtLaunch}
-use Rattle.example_launch.specs.declared.options.Launch.{Launch}
 use Rattle.example_launch.specs.Running.{IsLaunchOf, AnswersLaunch}
+use Rattle.example_launch.specs.declared.options.Launch.{Launch}
 use Rattle.std.specs.List.{Contains}
 use Rattle.bpaf_line.specs.declared.failure.ParseFailure.{ParseFailure}
 use Rattle.bpaf_record.proofs.Answered.{flag_leaves, line_behind, name_before, strict_words}
@@ -24,16 +23,14 @@ use Rattle.bpaf_exact.proofs.Says.{list_says, front_says, word_says}
 -- of a launch the lines are seen
 pub same_lines : (words : List (List ℕ)) → All IsUtf8 words → Alike lines (IsLaunchValue words)
 same_lines words =
-    program_looks_one
-    (values_look (con_seen
-    (both_seen (field_seen (switch_seen verbose_names))
-    (both_seen (field_seen (switch_seen dry_run_names))
-    (both_seen (field_seen (text_word_seen NonStrict []))
-    (alone_seen (field_seen (many_seen (text_word_seen Strict []))))))) launch_of lines
+    of.program_looks_one launcher
+    (of.con_seen launch_of lines
     (λ x y same. ap (λ (seen : Bool × (Bool × (List ℕ × List (List ℕ)))).
     line (codes "verbose: " ++ truth seen.0) ++ line (codes "dry run: " ++ truth seen.1.0)
-    ++ line (codes "name: " ++ seen.1.1.0) ++ line_each (codes "word: ") seen.1.1.1) same)))
-    (program_names launcher) (program_given words)
+    ++ line (codes "name: " ++ seen.1.1.0) ++ line_each (codes "word: ") seen.1.1.1) same)
+    (of.both_seen of.switch_seen (of.both_seen of.switch_seen
+    (of.both_seen of.text_word_seen (of.alone_seen (of.many_seen of.text_word_seen))))))
+    (program_given words)
 
 -- what the name says of its piece
 name_says : (os : List LinePiece) (v : String)

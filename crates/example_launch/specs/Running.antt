@@ -6,9 +6,9 @@ use Rattle.bpaf_doc.specs.{declared.doc.Piece.Piece, Print.printed, Names.Names}
 use Rattle.bpaf_words.specs.Arguments.{Given}
 use Rattle.bpaf_line.specs.declared.failure.ParseFailure.{ParseFailure}
 use Rattle.bpaf_keys.specs.Info.{plain_info}
-use Rattle.bpaf.specs.declared.leaves.positional.Position.TheVariants.{NonStrict, Strict}
+use Rattle.bpaf_grammar.specs.declared.position.Position.TheVariants.{NonStrict, Strict}
 use Rattle.bpaf.specs.{Marker.words_before, Marker.words_behind, Asked.IfShown}
-use Rattle.bpaf_record.specs.Grammar.{FieldsGrammar, Grammar, alone, both, word}
+use Rattle.bpaf_grammar.specs.Grammar.{FieldsGrammar, Grammar, alone, both, word}
 use Rattle.bpaf_program.specs.KnownParser.{known_switch, known_many, IsExactFor, MeansText, String}
 use Rattle.bpaf_program.specs.KnownParser.{known_con, IsDealtBy, IsPageOf, IsValueBy, help_of}
 use Rattle.bpaf_program.specs.Ending.{AnswersByText, line_each, truth, line}

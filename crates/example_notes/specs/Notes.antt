@@ -16,8 +16,8 @@ use Rattle.bpaf.specs.{Info.plain_info, Asked.IfShown}
 use Rattle.bpaf_text.specs.{Meaning.SpellsUnsigned, Named.KeyWithValue}
 use Rattle.bpaf_words.specs.Arguments.{Given}
 use Rattle.bpaf_line.specs.declared.failure.ParseFailure.{ParseFailure}
-use Rattle.bpaf.specs.declared.leaves.positional.Position.TheVariants.{Unrestricted}
-use Rattle.bpaf_record.specs.Grammar.{FieldsGrammar, argument, Grammar, choice, alone, both, word}
+use Rattle.bpaf_grammar.specs.declared.position.Position.TheVariants.{Unrestricted}
+use Rattle.bpaf_grammar.specs.Grammar.{FieldsGrammar, argument, Grammar, choice, alone, both, word}
 use Rattle.example_notes.specs.declared.options.Tag.TheVariants as tag
 use Rattle.example_notes.specs.declared.options.Task.TheVariants as task
 

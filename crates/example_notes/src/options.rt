@@ -72,10 +72,8 @@ type NameCommand = ParseCommand<String, ParsePositional<String>>;
 
 /// `add [-t TAG].. [TEXT]..`.
 fn add(alloc: Global) -> AddCommand
-    ensures { IsKnownParser add_command (⟦<AddCommand as Parser<Texts>>⟧.outcome result)
-        (⟦<AddCommand as Parser<Texts>>⟧.reads result)
-        (⟦<AddCommand as Parser<Texts>>⟧.describes result)
-        (⟦<AddCommand as Parser<Texts>>⟧.shorts result) }
+    ensures { IsKnownParser add_command
+        (⟦<AddCommand as Parser<Texts>>⟧.grammar result) }
 {
     let tags = key(alloc, 't', "tag").argument::<String>("TAG").many();
     let texts = positional::<String>("TEXT").many();
@@ -84,10 +82,8 @@ fn add(alloc: Global) -> AddCommand
 
 /// `list [-n NUM]`.
 fn list(alloc: Global) -> ListCommand
-    ensures { IsKnownParser list_command (⟦<ListCommand as Parser<u64>>⟧.outcome result)
-        (⟦<ListCommand as Parser<u64>>⟧.reads result)
-        (⟦<ListCommand as Parser<u64>>⟧.describes result)
-        (⟦<ListCommand as Parser<u64>>⟧.shorts result) }
+    ensures { IsKnownParser list_command
+        (⟦<ListCommand as Parser<u64>>⟧.grammar result) }
 {
     let max = key(alloc, 'n', "max").argument::<u64>("NUM").fallback(10);
     plain_command(alloc, "list", max)
@@ -97,10 +93,7 @@ fn list(alloc: Global) -> ListCommand
 fn named(alloc: Global, word: &str) -> NameCommand
     requires { length word.now ≤ 23 }
     ensures { IsKnownParser (name_command word.now)
-        (⟦<NameCommand as Parser<String>>⟧.outcome result)
-        (⟦<NameCommand as Parser<String>>⟧.reads result)
-        (⟦<NameCommand as Parser<String>>⟧.describes result)
-        (⟦<NameCommand as Parser<String>>⟧.shorts result) }
+        (⟦<NameCommand as Parser<String>>⟧.grammar result) }
 {
     plain_command(alloc, word, positional::<String>("NAME"))
 }

@@ -3,7 +3,7 @@ ghost use Rattle.std.specs.Prelude.{Ok};
 
 use bpaf::params::ParseArgument;
 use bpaf::parsers::ParseOrElse;
-use bpaf::{Args, Parser, State, construct, positional, pure, short};
+use bpaf::{Args, Parser, State, construct, evaluate, positional, pure, short};
 use std::alloc::{AllocError, Global};
 use std::test::Fail;
 use test_support::{num, prints, value, verbose};
@@ -188,7 +188,7 @@ fn conflict_in(
     alloc: Global,
     state: &mut State,
 ) -> Result<(Option<u64>, Option<(usize, usize)>), AllocError> {
-    let answer = one_of_two(alloc)?.eval(state).ok();
+    let answer = evaluate(&one_of_two(alloc)?, state).ok();
     Ok((answer, state.conflict()))
 }
 

@@ -1,4 +1,5 @@
 //! One attempt after another to read a group from a place on.
+ghost use Rattle.bpaf_grammar.specs.Grammar.{outcome_of};
 ghost use Rattle.std.specs.Prelude.{◌≡◌, ◌≤◌, true, None, Some, Ok, Err, length, MatchOption};
 ghost use Rattle.std.specs.Prelude.{MatchResult};
 ghost use Rattle.bpaf_line.specs.Situation.{IsStretchFrom, open_count, with_scope, HasNoneOpen};
@@ -67,7 +68,7 @@ pub(super) fn takes_item<T: Drop, P: Parser<T>>(
     requires ordered { place ≤ end }
     requires inside { end ≤ length state.old.context.line }
     ensures takes { MatchResult result
-        (λ takes. TakesOnePlace T (P.outcome parser.now) state.old place end takes)
+        (λ takes. TakesOnePlace T (outcome_of (P.grammar parser.now)) state.old place end takes)
         (λ error. is_memory error.0 ≡ true) }
     ensures same { state.new ≡ state.old }
 {
@@ -100,7 +101,7 @@ fn attempt<T: Drop, P: Parser<T>>(
     requires can { P.can_eval parser.now }
     requires ordered { place ≤ end }
     requires inside { end ≤ length state.old.context.line }
-    ensures { EndsAttempt T (P.outcome parser.now) state.old place end result state.new }
+    ensures { EndsAttempt T (outcome_of (P.grammar parser.now)) state.old place end result state.new }
 {
     let mark = state.mark();
     let scope = state.scope();
@@ -147,7 +148,7 @@ pub(super) fn attempts<T: Drop, P: Parser<T>>(
 ) -> Result<T, Error>
     requires can { P.can_eval parser.now }
     requires inside { place ≤ length state.old.context.line }
-    ensures { Tries T (P.outcome parser.now) state.old place result state.new }
+    ensures { Tries T (outcome_of (P.grammar parser.now)) state.old place result state.new }
 {
     let mut end = stretch_end(state, place);
     loop {

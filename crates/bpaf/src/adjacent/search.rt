@@ -1,8 +1,9 @@
 //! A group is looked for at each present place of the scope, from left to right.
+ghost use Rattle.bpaf_grammar.specs.Grammar.{outcome_of};
 ghost use Rattle.std.specs.Prelude.{◌≡◌, ◌+◌, ◌≤◌, None, Some, Ok, Err, length, IfSome};
 ghost use Rattle.std.specs.Prelude.{MatchOption};
 ghost use Rattle.bpaf_doc.specs.Shape.{part_of};
-ghost use Rattle.bpaf_laws.specs.Adjacent.{GroupOutcome, Tries, HasNoStart, IsGroupStart};
+ghost use Rattle.bpaf_laws.specs.Adjacent.{GroupOutcome, HasNoStart, IsGroupStart};
 ghost use Rattle.bpaf_laws.specs.Adjacent.{place_count};
 ghost use Rattle.bpaf.specs.Remembering.{TriesAt, IsRemembered, failure_of};
 
@@ -55,7 +56,7 @@ fn try_at<T: Drop, P: Parser<T>>(
     requires ordered { place ≤ end }
     requires inside { end ≤ length state.old.context.line }
     requires sound { IsRemembered state.old best.old }
-    ensures tried { TriesAt T (P.outcome parser.now) state.old place end
+    ensures tried { TriesAt T (outcome_of (P.grammar parser.now)) state.old place end
         (failure_of state.old best.old) result (failure_of state.old best.new) state.new }
     ensures sound { IsRemembered state.old best.new }
 {
@@ -82,7 +83,7 @@ pub(super) fn search<T: Drop, P: Parser<T>>(
     state: &mut State,
 ) -> Result<T, Error>
     requires { P.can_eval parser.now }
-    ensures { GroupOutcome T (P.outcome parser.now) (part_of first.now)
+    ensures { GroupOutcome T (outcome_of (P.grammar parser.now)) (part_of first.now)
         state.old result state.new }
 {
     let width = place_count(first);

@@ -1,12 +1,9 @@
 //! An item of any kind, as far as a check takes it.
-ghost use Rattle.std.specs.Prelude.{◌≡◌, ◌∷◌, [], IfOk, Some, None, true, false, List, refl};
-ghost use Rattle.std.specs.Result.{IfErr};
+ghost use Rattle.bpaf_grammar.specs.Leaves.{any_item};
+ghost use Rattle.bpaf_grammar.specs.Grammar.{own};
+ghost use Rattle.std.specs.Prelude.{◌≡◌, ◌∷◌, [], IfOk, Some, None, true, false};
 ghost use Rattle.bpaf_doc.specs.Print.{text_pieces, shown_as};
-ghost use Rattle.bpaf_doc.specs.{declared.doc.Piece.Piece, Shape.Shown, Shape.Any};
-ghost use Rattle.bpaf_laws.specs.Leaves.{ChecksText, AnyOutcome, AnyReads};
-ghost use Rattle.bpaf_laws.specs.Laws.{no_shorts};
-ghost use Rattle.bpaf.specs.Positional.{PassesAll};
-ghost use Rattle.bpaf_laws.proofs.{LeafLaws.any_lawful, ShownNames.one_shape};
+ghost use Rattle.bpaf_laws.specs.Leaves.{ChecksText};
 
 use crate::leaves::look::{Look, any_item, take_match};
 use bpaf_core::Parser;
@@ -136,24 +133,10 @@ impl<I: FromText, T, F: Fn(I) -> Option<T>> Look<T> for ParseAny<I, T, F> {
 impl<I: FromText, T: Drop, F: Fn(I) -> Option<T>> Parser<T> for ParseAny<I, T, F> {
     ghost can_eval = { λ p. F.IsAlwaysCallable p.check };
 
-    ghost describes = { λ p shape. shape ≡ Shown (Any p.metavar p.help p.anywhere) };
+    ghost grammar = { λ p. own (any_item (ChecksText I.means (λ x v. F.post p.check x v))
+        p.metavar p.help p.anywhere) };
 
-    ghost shorts = { λ p. no_shorts };
-
-    ghost reads = { λ p. AnyReads T (ChecksText I.means (λ x v. F.post p.check x v)) };
-
-    ghost outcome = { λ p. AnyOutcome (ChecksText I.means (λ x v. F.post p.check x v))
-        (Any p.metavar p.help p.anywhere) p.anywhere };
-
-    #[tactic(auto, using(crate::proofs::LeafLemmas::any_passes_all))]
-    fn eval(&self, state: &mut State) -> Result<T, Error>
-        requires { F.IsAlwaysCallable self.now.check }
-        ensures outcome { AnyOutcome (ChecksText I.means (λ x v. F.post self.now.check x v))
-            (Any self.now.metavar self.now.help self.now.anywhere) self.now.anywhere
-            state.old result state.new }
-        ensures memory_is_never_caught { IfErr result (PassesAll
-            (ChecksText I.means (λ x v. F.post self.now.check x v)) self.now.anywhere state.old) }
-    {
+    fn eval(&self, state: &mut State) -> Result<T, Error> {
         if let Some(value) = take_match(self, self.anywhere, state)? {
             return Ok(value);
         }
@@ -164,9 +147,4 @@ impl<I: FromText, T: Drop, F: Fn(I) -> Option<T>> Parser<T> for ParseAny<I, T, F
     fn meta(&self, _alloc: Global) -> Result<Meta, AllocError> {
         Ok(Meta::Item(any_item(&self.metavar, &self.help, self.anywhere)?))
     }
-
-    ghost lawful = { λ p. any_lawful T (ChecksText I.means (λ x v. F.post p.check x v))
-        (Any p.metavar p.help p.anywhere) p.anywhere };
-
-    ghost shows = { λ p. one_shape refl };
 }

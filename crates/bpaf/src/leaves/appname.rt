@@ -1,9 +1,7 @@
 //! The name under which a program runs.
-ghost use Rattle.std.specs.{Prelude.◌≡◌, Prelude.true, Prelude.refl, Result.IfErr};
+ghost use Rattle.bpaf_grammar.specs.Leaves.{program_name};
+ghost use Rattle.bpaf_grammar.specs.Grammar.{own};
 ghost use Rattle.bpaf_doc.specs.Shape.{Skip};
-ghost use Rattle.bpaf_line.specs.Messages.{is_memory};
-ghost use Rattle.bpaf_laws.specs.{Leaves.AppnameOutcome, Leaves.AppnameReads, Laws.no_shorts};
-ghost use Rattle.bpaf_laws.proofs.{LeafLaws.appname_lawful, ShownNames.one_shape};
 
 use bpaf_core::Parser;
 use bpaf_doc::Meta;
@@ -31,18 +29,9 @@ pub fn appname() -> ParseAppname {
 impl Parser<String> for ParseAppname {
     ghost can_eval = { λ p. Unit {0} };
 
-    ghost describes = { λ p shape. shape ≡ Skip };
+    ghost grammar = { λ p. own program_name };
 
-    ghost shorts = { λ p. no_shorts };
-
-    ghost reads = { λ p. AppnameReads };
-
-    ghost outcome = { λ p. AppnameOutcome };
-
-    fn eval(&self, state: &mut State) -> Result<String, Error>
-        ensures outcome { AppnameOutcome state.old result state.new }
-        ensures memory_is_never_caught { IfErr result (λ error. is_memory error.0 ≡ true) }
-    {
+    fn eval(&self, state: &mut State) -> Result<String, Error> {
         match state.path().first() {
             Some(entry) => Ok(entry.clone()?),
             None => Ok(String::from_str(state.alloc(), "app")?),
@@ -52,8 +41,4 @@ impl Parser<String> for ParseAppname {
     fn meta(&self, _alloc: Global) -> Result<Meta, AllocError> {
         Ok(Meta::Skip)
     }
-
-    ghost lawful = { λ p. appname_lawful };
-
-    ghost shows = { λ p. one_shape refl };
 }

@@ -1,12 +1,9 @@
 //! A word that stands on the line as it is.
-ghost use Rattle.std.specs.Prelude.{◌≡◌, ◌∷◌, [], IfOk, Some, None, true, false, List, refl};
-ghost use Rattle.std.specs.Result.{IfErr};
+ghost use Rattle.bpaf_grammar.specs.Leaves.{any_item};
+ghost use Rattle.bpaf_grammar.specs.Grammar.{own};
+ghost use Rattle.std.specs.Prelude.{◌≡◌, ◌∷◌, [], IfOk, Some, None, true, false};
 ghost use Rattle.bpaf_doc.specs.Print.{text_pieces, shown_as};
-ghost use Rattle.bpaf_doc.specs.{declared.doc.Piece.Piece, Shape.Shown, Shape.Any};
-ghost use Rattle.bpaf_laws.specs.Leaves.{IsLiteral, AnyOutcome, AnyReads};
-ghost use Rattle.bpaf_laws.specs.Laws.{no_shorts};
-ghost use Rattle.bpaf.specs.Positional.{PassesAll};
-ghost use Rattle.bpaf_laws.proofs.{LeafLaws.any_lawful, ShownNames.one_shape};
+ghost use Rattle.bpaf_laws.specs.Leaves.{IsLiteral};
 
 use crate::leaves::look::{Look, any_item, take_match};
 use bpaf_core::Parser;
@@ -108,23 +105,9 @@ impl Look<()> for ParseLiteral {
 impl Parser<()> for ParseLiteral {
     ghost can_eval = { λ p. Unit {0} };
 
-    ghost describes = { λ p shape. shape ≡ Shown (Any p.metavar p.help p.anywhere) };
+    ghost grammar = { λ p. own (any_item (IsLiteral p.text) p.metavar p.help p.anywhere) };
 
-    ghost shorts = { λ p. no_shorts };
-
-    ghost reads = { λ p. AnyReads (Unit {0}) (IsLiteral p.text) };
-
-    ghost outcome = { λ p.
-        AnyOutcome (IsLiteral p.text) (Any p.metavar p.help p.anywhere) p.anywhere };
-
-    #[tactic(auto, using(crate::proofs::LeafLemmas::any_passes_all))]
-    fn eval(&self, state: &mut State) -> Result<(), Error>
-        ensures outcome { AnyOutcome (IsLiteral self.now.text)
-            (Any self.now.metavar self.now.help self.now.anywhere) self.now.anywhere
-            state.old result state.new }
-        ensures memory_is_never_caught { IfErr result (PassesAll (IsLiteral self.now.text)
-            self.now.anywhere state.old) }
-    {
+    fn eval(&self, state: &mut State) -> Result<(), Error> {
         if take_match(self, self.anywhere, state)?.is_some() {
             return Ok(());
         }
@@ -135,9 +118,4 @@ impl Parser<()> for ParseLiteral {
     fn meta(&self, _alloc: Global) -> Result<Meta, AllocError> {
         Ok(Meta::Item(any_item(&self.metavar, &self.help, self.anywhere)?))
     }
-
-    ghost lawful = { λ p.
-        any_lawful (Unit {0}) (IsLiteral p.text) (Any p.metavar p.help p.anywhere) p.anywhere };
-
-    ghost shows = { λ p. one_shape refl };
 }

@@ -1,42 +1,16 @@
 //! A word of the line, by its place and not by a name.
+ghost use Rattle.bpaf_grammar.specs.Grammar.{word};
 ghost use Rattle.std.specs.Prelude.{◌≡◌, IfOk, Some, None, List};
-ghost use Rattle.std.specs.Result.{IfErr};
 ghost use Rattle.bpaf_doc.specs.{declared.doc.Piece.Piece};
-ghost use Rattle.bpaf.specs.Positional.{accepts, misplaced, PositionalOutcome, PositionalReads};
-ghost use Rattle.bpaf.specs.Positional.{positional_shape, FaultsWordAlone, positional_lawful};
-ghost use Rattle.bpaf.specs.Positional.{positional_shows};
-ghost use Rattle.bpaf_laws.specs.Laws.{no_shorts};
+ghost use Rattle.bpaf_grammar.specs.Positional.{accepts, misplaced};
 
 use bpaf_core::{Parser, value_or_refusal};
 use bpaf_doc::{Help, Item, Meta, Metavar, Text};
+use bpaf_grammar::Position;
 use bpaf_line::{Error, Message, State};
 use bpaf_text::FromText;
 use std::alloc::{AllocError, Global};
 use std::marker::PhantomData;
-
-/// On which side of `--` a positional word may stand (bpaf's `Position`, in `params.rs`).
-#[derive(Clone, Copy)]
-pub enum Position {
-    /// On either side.
-    Unrestricted,
-    /// On the right side.
-    Strict,
-    /// On the left side.
-    NonStrict,
-}
-
-impl Position {
-    /// Whether a word may stand there; `strict` is true for the right side of `--`.
-    fn accepts(self, strict: bool) -> bool
-        ensures { result ≡ accepts self strict }
-    {
-        match self {
-            Position::Unrestricted => true,
-            Position::Strict => strict,
-            Position::NonStrict => !strict,
-        }
-    }
-}
 
 /// A positional word: the first one that is no option (bpaf's `ParsePositional`, in `params.rs`).
 pub struct ParsePositional<T> {
@@ -158,21 +132,9 @@ fn misplaced(
 impl<T: FromText> Parser<T> for ParsePositional<T> {
     ghost can_eval = { λ p. Unit {0} };
 
-    ghost describes = { λ p shape. shape ≡ positional_shape p.position p.metavar.0.now p.help };
+    ghost grammar = { λ p. word T.means p.position p.metavar.0.now p.help };
 
-    ghost shorts = { λ p. no_shorts };
-
-    ghost reads = { λ p. PositionalReads T T.means p.position };
-
-    ghost outcome = { λ p. PositionalOutcome T.means p.position p.metavar.0.now };
-
-    #[tactic(auto, using(crate::proofs::LeafLemmas::word_faults_alone))]
-    fn eval(&self, state: &mut State) -> Result<T, Error>
-        ensures outcome { PositionalOutcome T.means self.now.position self.now.metavar.0.now
-            state.old result state.new }
-        ensures memory_is_never_caught { IfErr result
-            (FaultsWordAlone T.means state.old state.new) }
-    {
+    fn eval(&self, state: &mut State) -> Result<T, Error> {
         let (place, strict, text) = state.positional_word(self.metavar)?;
         if !self.position.accepts(strict) {
             state.take(place);
@@ -192,8 +154,4 @@ impl<T: FromText> Parser<T> for ParsePositional<T> {
             Position::Unrestricted | Position::NonStrict => Ok(item),
         }
     }
-
-    ghost lawful = { λ p. positional_lawful T T.means p.position p.metavar.0.now };
-
-    ghost shows = { λ p. positional_shows p.position p.metavar.0.now p.help };
 }

@@ -1,14 +1,8 @@
 //! Parsers that look at no item: a value, a closure's value, a refusal.
-ghost use Rattle.std.specs.{Prelude.◌≡◌, Prelude.refl, Prelude.true, Prelude.Ok, Result.IfErr};
+ghost use Rattle.bpaf_grammar.specs.Leaves.{closure_answer, refusal};
+ghost use Rattle.bpaf_grammar.specs.Grammar.{kept, own};
+ghost use Rattle.std.specs.{Prelude.◌≡◌, Prelude.Ok};
 ghost use Rattle.bpaf_doc.specs.Shape.{Skip};
-ghost use Rattle.bpaf_line.specs.Messages.{is_memory};
-ghost use Rattle.bpaf_laws.specs.Combinators.{PureOutcome, PureReads, PureWithOutcome};
-ghost use Rattle.bpaf_laws.specs.Combinators.{GivesRefusal, GivesClone, GivesAnswer};
-ghost use Rattle.bpaf_laws.specs.Laws.{no_shorts};
-ghost use Rattle.bpaf_laws.proofs.LeafLaws.{pure_lawful, pure_with_lawful, refusal_lawful};
-ghost use Rattle.bpaf_laws.proofs.CombinatorLaws.{names_answer};
-ghost use Rattle.bpaf_laws.proofs.{Keeping.names_want, ShownNames.one_shape};
-ghost use Rattle.bpaf.specs.Positional.{TellsAnswer, TellsWhole};
 
 use bpaf_core::{Parser, given_by};
 use bpaf_doc::{Meta, Text};
@@ -41,19 +35,9 @@ pub fn pure<T>(value: T) -> ParsePure<T>
 impl<T: Clone> Parser<T> for ParsePure<T> {
     ghost can_eval = { λ p. Unit {0} };
 
-    ghost describes = { λ p shape. shape ≡ Skip };
+    ghost grammar = { λ p. kept T.is_clone p.value };
 
-    ghost shorts = { λ p. no_shorts };
-
-    ghost reads = { λ p. PureReads (T.is_clone p.value) };
-
-    ghost outcome = { λ p. PureOutcome (GivesClone T.is_clone p.value) };
-
-    fn eval(&self, state: &mut State) -> Result<T, Error>
-        ensures outcome { PureOutcome (GivesClone T.is_clone self.now.value)
-            state.old result state.new }
-        ensures memory_is_never_caught { IfErr result (λ error. is_memory error.0 ≡ true) }
-    {
+    fn eval(&self, state: &mut State) -> Result<T, Error> {
         state.set_current(None);
         Ok(self.value.clone()?)
     }
@@ -61,11 +45,6 @@ impl<T: Clone> Parser<T> for ParsePure<T> {
     fn meta(&self, _alloc: Global) -> Result<Meta, AllocError> {
         Ok(Meta::Skip)
     }
-
-    ghost lawful = { λ p. pure_lawful (GivesClone T.is_clone p.value)
-        (λ context e. names_want context e.0) };
-
-    ghost shows = { λ p. one_shape refl };
 }
 
 /// A closure's answer (bpaf's `ParsePureWith`, in `structs.rs`).
@@ -101,33 +80,15 @@ pub fn pure_with<T, F: Fn() -> Result<T, E>, E: Display>(f: F) -> ParsePureWith<
 impl<T, F: Fn() -> Result<T, E>, E: Display + Drop> Parser<T> for ParsePureWith<T, F, E> {
     ghost can_eval = { λ p. F.IsAlwaysCallable p.f };
 
-    ghost describes = { λ p shape. shape ≡ Skip };
+    ghost grammar = { λ p. own (closure_answer (λ r. F.post p.f r) E.output) };
 
-    ghost shorts = { λ p. no_shorts };
-
-    ghost reads = { λ p. PureReads (λ v. F.post p.f (Ok v)) };
-
-    ghost outcome = { λ p. PureWithOutcome (GivesAnswer (λ r. F.post p.f r) E.output) };
-
-    #[tactic(auto, using(crate::proofs::LeafLemmas::answer_told))]
-    fn eval(&self, state: &mut State) -> Result<T, Error>
-        requires { F.IsAlwaysCallable self.now.f }
-        ensures outcome { PureWithOutcome (GivesAnswer (λ r. F.post self.now.f r) E.output)
-            state.old result state.new }
-        ensures memory_is_never_caught { IfErr result
-            (TellsAnswer (λ r. F.post self.now.f r) E.output) }
-    {
+    fn eval(&self, state: &mut State) -> Result<T, Error> {
         given_by(state.alloc(), &self.f)
     }
 
     fn meta(&self, _alloc: Global) -> Result<Meta, AllocError> {
         Ok(Meta::Skip)
     }
-
-    ghost lawful = { λ p. pure_with_lawful (GivesAnswer (λ r. F.post p.f r) E.output)
-        (names_answer (λ r. F.post p.f r) E.output) };
-
-    ghost shows = { λ p. one_shape refl };
 }
 
 /// A refusal (bpaf's `ParseFail`, in `structs.rs`).
@@ -157,20 +118,9 @@ pub fn fail<T>(message: &'static str) -> ParseFail<T>
 impl<T> Parser<T> for ParseFail<T> {
     ghost can_eval = { λ p. Unit {0} };
 
-    ghost describes = { λ p shape. shape ≡ Skip };
+    ghost grammar = { λ p. own (refusal p.message.now) };
 
-    ghost shorts = { λ p. no_shorts };
-
-    ghost reads = { λ p. PureReads (λ v. ⊥) };
-
-    ghost outcome = { λ p. PureOutcome (GivesRefusal p.message.now) };
-
-    #[tactic(auto, using(crate::proofs::LeafLemmas::refusal_told))]
-    fn eval(&self, state: &mut State) -> Result<T, Error>
-        ensures outcome { PureOutcome (GivesRefusal self.now.message.now)
-            state.old result state.new }
-        ensures memory_is_never_caught { IfErr result (TellsWhole self.now.message.now) }
-    {
+    fn eval(&self, state: &mut State) -> Result<T, Error> {
         state.set_current(None);
         let message = Text::new(state.alloc(), self.message)?;
         Err(Error(Message::ParseFail(message)))
@@ -179,8 +129,4 @@ impl<T> Parser<T> for ParseFail<T> {
     fn meta(&self, _alloc: Global) -> Result<Meta, AllocError> {
         Ok(Meta::Skip)
     }
-
-    ghost lawful = { λ p. refusal_lawful p.message.now };
-
-    ghost shows = { λ p. one_shape refl };
 }

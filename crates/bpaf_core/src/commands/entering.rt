@@ -1,16 +1,14 @@
 //! What a command answers: its word is taken, and what runs inside it ends before or at the end of
 //! its scope.
-ghost use Rattle.std.specs.{Prelude.◌≡◌, Prelude.◌<◌, Prelude.IfOk, Prelude.true, Prelude.false};
-ghost use Rattle.std.specs.Result.{IfErr};
+ghost use Rattle.bpaf_grammar.specs.Grammar.{command};
+ghost use Rattle.bpaf_grammar.specs.Grammar.{outcome_of, describes_of};
+ghost use Rattle.std.specs.{Prelude.◌≡◌, Prelude.◌<◌, Prelude.IfOk};
 ghost use Rattle.bpaf_doc.specs.Shape.{part_of};
-ghost use Rattle.bpaf_laws.specs.{Command.CommandPart, Command.CommandDescribes};
-ghost use Rattle.bpaf_laws.specs.{Command.LeavesNothing, Command.opening_words, Laws.newly};
-ghost use Rattle.bpaf_laws.specs.{Laws.IsNotMemory, Laws.WithoutMemory, Adjacent.IsStretch};
-ghost use Rattle.bpaf_core.specs.Command.{Enters, RunsInside, OutcomeOfCommand, EitherCommandReads};
-ghost use Rattle.bpaf_core.specs.Command.{IsMissingPart, shown_help};
-ghost use Rattle.bpaf_core.specs.{Refusals.NamesInside};
-ghost use Rattle.bpaf_core.specs.{AdjacentLaws.either_lawful, Ending.EndsRun, Ending.run_ending};
-ghost use Rattle.bpaf_laws.proofs.ShownNames.{command_shows};
+ghost use Rattle.bpaf_laws.specs.{Command.CommandPart};
+ghost use Rattle.bpaf_core.specs.Help.{shown_help};
+ghost use Rattle.bpaf_grammar.specs.Command.{Enters, RunsInside};
+ghost use Rattle.bpaf_grammar.specs.Command.{IsMissingPart};
+ghost use Rattle.bpaf_grammar.specs.{Ending.EndsRun};
 
 use crate::commands::ParseCommand;
 use crate::parser::Parser;
@@ -36,7 +34,7 @@ impl<T: Drop, P: Parser<T>> ParseCommand<T, P> {
     fn item(&self, alloc: Global) -> Result<Item, AllocError>
         requires { P.can_eval self.now.inner }
         ensures { IfOk result (λ item. CommandPart self.now.names (shown_help self.now)
-            (P.describes self.now.inner) (part_of item)) }
+            (describes_of (P.grammar self.now.inner)) (part_of item)) }
     {
         Ok(Item::Command {
             name: Text::new(alloc, self.names.name())?,
@@ -50,7 +48,7 @@ impl<T: Drop, P: Parser<T>> ParseCommand<T, P> {
     fn missing(&self, state: &State) -> Error
         requires { P.can_eval self.now.inner }
         ensures { IsMissingPart (CommandPart self.now.names (shown_help self.now)
-            (P.describes self.now.inner)) state.now result.0 }
+            (describes_of (P.grammar self.now.inner))) state.now result.0 }
     {
         match self.item(state.alloc()) {
             Ok(item) => match state.missing(Some(item)) {
@@ -66,7 +64,7 @@ impl<T: Drop, P: Parser<T>> ParseCommand<T, P> {
     fn enter(&self, state: &mut State) -> Result<(), Error>
         requires { P.can_eval self.now.inner }
         ensures { Enters self.now.names (CommandPart self.now.names (shown_help self.now)
-            (P.describes self.now.inner)) state.old result state.new }
+            (describes_of (P.grammar self.now.inner))) state.old result state.new }
     {
         if !self.names.open(state) {
             return Err(self.missing(state));
@@ -81,8 +79,8 @@ impl<T: Drop, P: Parser<T>> ParseCommand<T, P> {
     fn run_inside(&self, state: &mut State) -> Result<T, ParseFailure>
         requires can { P.can_eval self.now.inner }
         requires word { state.old.start < state.old.end }
-        ensures { RunsInside self.now.adjacent T (P.outcome self.now.inner)
-            (EndsRun (P.describes self.now.inner) self.now.info)
+        ensures { RunsInside self.now.adjacent T (outcome_of (P.grammar self.now.inner))
+            (EndsRun (describes_of (P.grammar self.now.inner)) self.now.info)
             state.old result state.new }
     {
         let run = Run {
@@ -104,37 +102,16 @@ impl<T: Drop, P: Parser<T>> ParseCommand<T, P> {
 ///
 /// Where the first present item in scope isn't its word, its item is missing. A refusal of the
 /// inner run is ParseFailure, which nothing but `catch` catches, and has its name in that run: it
-/// is the message of the inner parser behind the word, or a page of that parser with its own texts
-/// (clause `named_inside`). Want of memory stays that. An adjacent command runs over the unbroken
+/// is the message of the inner parser behind the word, or a page of that parser with its own texts.
+/// Want of memory stays that. An adjacent command runs over the unbroken
 /// stretch of present items behind its word, or over a part of it, and leaves what follows to
 /// others.
 impl<T: Drop, P: Parser<T>> Parser<T> for ParseCommand<T, P> {
     ghost can_eval = { λ p. P.can_eval p.inner };
 
-    ghost describes = { λ p. CommandDescribes p.names (shown_help p) (P.describes p.inner) };
+    ghost grammar = { λ p. command p.adjacent p.names p.info (shown_help p) (P.grammar p.inner) };
 
-    ghost shorts = { λ p. P.shorts p.inner };
-
-    ghost reads = { λ p.
-        EitherCommandReads p.adjacent T (opening_words p.names) (P.reads p.inner) };
-
-    ghost outcome = { λ p. OutcomeOfCommand p (P.outcome p.inner) (P.describes p.inner) };
-
-    fn eval(&self, state: &mut State) -> Result<T, Error>
-        requires { P.can_eval self.now.inner }
-        ensures outcome { OutcomeOfCommand self.now (P.outcome self.now.inner)
-            (P.describes self.now.inner) state.old result state.new }
-        ensures command_leaves_nothing { self.now.adjacent ≡ false →
-            IfOk result (λ _. LeavesNothing state.old state.new) }
-        ensures takes_one_stretch { self.now.adjacent ≡ true →
-            IfOk result (λ _. IsStretch (newly state.old state.new)) }
-        ensures named_inside { IfErr result (λ error. NamesInside self.now.adjacent self.now.names
-            (P.outcome self.now.inner) (P.describes self.now.inner) self.now.info state.old
-            error.0) }
-        ensures memory_is_never_caught { IsNotMemory result →
-            OutcomeOfCommand self.now (WithoutMemory (P.outcome self.now.inner))
-            (P.describes self.now.inner) state.old result state.new }
-    {
+    fn eval(&self, state: &mut State) -> Result<T, Error> {
         self.enter(state)?;
         match self.run_inside(state) {
             Ok(value) => Ok(value),
@@ -145,10 +122,4 @@ impl<T: Drop, P: Parser<T>> Parser<T> for ParseCommand<T, P> {
     fn meta(&self, alloc: Global) -> Result<Meta, AllocError> {
         Ok(Meta::Item(self.item(alloc)?))
     }
-
-    ghost lawful = { λ p. either_lawful (P.lawful p.inner)
-        (run_ending (P.describes p.inner) p.info) p.names
-        (CommandPart p.names (shown_help p) (P.describes p.inner)) p.adjacent };
-
-    ghost shows = { λ p. command_shows (P.shows p.inner) p.names (shown_help p) };
 }

@@ -1,10 +1,8 @@
 //! A run over words: their line is read, and the parser runs over it.
-ghost use Rattle.std.specs.{Prelude.◌≡◌, Prelude.IfOk, Result.IfErr};
+ghost use Rattle.std.specs.{Prelude.IfOk, Result.IfErr};
 ghost use Rattle.bpaf_words.specs.{Arguments.given_of, Arguments.words_in, Splitting.ReadsLine};
-ghost use Rattle.bpaf_laws.specs.Laws.{WithoutMemory};
-ghost use Rattle.bpaf_keys.specs.Info.{known_names};
-ghost use Rattle.bpaf_core.specs.Run.{Starts, IsDealtOut, IsNotWant, RunsWords};
-ghost use Rattle.bpaf_core.specs.Refusals.{IsOneOfTwelve};
+ghost use Rattle.bpaf_grammar.specs.{Run.IsNotWant, Run.Starts};
+ghost use Rattle.bpaf_grammar.specs.Words.{Answers, AnswersSpared, Deals, Refuses, names_of};
 
 use crate::options::OptionParser;
 use crate::parser::Parser;
@@ -27,10 +25,10 @@ impl<T: Drop, P: Parser<T>> OptionParser<T, P> {
     /// means no value; a value that a check refused; no value of what looks at no item, or of a
     /// repeat that wants one; an item that another excludes; a key once more than it may stand; an
     /// item that no parser took. So has one that a run inside the parser ended with, on this line;
-    /// of a command's the clause `named_inside` of its `eval` says in which run.
+    /// of a command's `CommandNamesItsOwn` says in which run.
     ///
-    /// Where the parser wants memory, the answer is want of memory. No parser of this library
-    /// catches it inside, by a clause of its `eval`.
+    /// Where the parser wants memory, the answer is want of memory. No parser catches it inside
+    /// (`MemoryIsNeverCaught`).
     ///
     /// ```text
     /// let options = construct!(verbose, num).to_options(alloc)?;
@@ -39,18 +37,14 @@ impl<T: Drop, P: Parser<T>> OptionParser<T, P> {
     /// ```
     pub fn run_inner(&self, args: Args<'_>) -> Result<T, ParseFailure>
         requires { P.can_eval self.now.inner }
-        ensures outcome { RunsWords T (P.outcome self.now.inner) (P.describes self.now.inner)
-            self.now.info (known_names self.now.info (P.shorts self.now.inner)) (given_of args.entry)
-            result }
-        ensures named { IfErr result (IsOneOfTwelve (P.outcome self.now.inner)
-            (P.describes self.now.inner) self.now.info
-            (known_names self.now.info (P.shorts self.now.inner)) (given_of args.entry)) }
-        ensures dealt { IfOk result (λ v. IsDealtOut T (P.reads self.now.inner)
-            (known_names self.now.info (P.shorts self.now.inner)) (given_of args.entry) v) }
+        ensures outcome { Answers (P.grammar self.now.inner) self.now.info
+            (given_of args.entry) result }
+        ensures named { IfErr result (Refuses (P.grammar self.now.inner) self.now.info
+            (given_of args.entry)) }
+        ensures dealt { IfOk result (Deals (P.grammar self.now.inner) self.now.info
+            (given_of args.entry)) }
         ensures memory_is_never_caught { IsNotWant result →
-            RunsWords T (WithoutMemory (P.outcome self.now.inner)) (P.describes self.now.inner)
-            self.now.info (known_names self.now.info (P.shorts self.now.inner)) (given_of args.entry)
-            result }
+            AnswersSpared (P.grammar self.now.inner) self.now.info (given_of args.entry) result }
     {
         match self.construct(args) {
             Ok(mut state) => {
@@ -69,7 +63,7 @@ impl<T: Drop, P: Parser<T>> OptionParser<T, P> {
     /// The state at the beginning of the words' line.
     fn construct(&self, args: Args<'_>) -> Result<State, Message>
         requires { P.can_eval self.now.inner }
-        ensures { Starts (known_names self.now.info (P.shorts self.now.inner))
+        ensures { Starts (names_of (P.grammar self.now.inner) self.now.info)
             (given_of args.entry) result }
     {
         let line = self.line(args.words())?;
@@ -80,7 +74,7 @@ impl<T: Drop, P: Parser<T>> OptionParser<T, P> {
     /// the same whatever names are known, and the parser isn't asked for them.
     fn line(&self, words: Words<'_>) -> Result<Line, LineFault>
         requires { P.can_eval self.now.inner }
-        ensures { ReadsLine (known_names self.now.info (P.shorts self.now.inner))
+        ensures { ReadsLine (names_of (P.grammar self.now.inner) self.now.info)
             (words_in words.entry) result }
     {
         let front = Front::new(self.alloc, words, self.info.numbers)?;
@@ -104,18 +98,11 @@ impl<T: Drop, P: Parser<T> + Drop> OptionParser<T, P> {
     /// ```
     pub fn run_once(self, args: Args<'_>) -> Result<T, ParseFailure>
         requires { P.can_eval self.inner }
-        ensures outcome { RunsWords T (P.outcome self.inner) (P.describes self.inner)
-            self.info (known_names self.info (P.shorts self.inner)) (given_of args.entry)
-            result }
-        ensures named { IfErr result (IsOneOfTwelve (P.outcome self.inner)
-            (P.describes self.inner) self.info
-            (known_names self.info (P.shorts self.inner)) (given_of args.entry)) }
-        ensures dealt { IfOk result (λ v. IsDealtOut T (P.reads self.inner)
-            (known_names self.info (P.shorts self.inner)) (given_of args.entry) v) }
+        ensures outcome { Answers (P.grammar self.inner) self.info (given_of args.entry) result }
+        ensures named { IfErr result (Refuses (P.grammar self.inner) self.info (given_of args.entry)) }
+        ensures dealt { IfOk result (Deals (P.grammar self.inner) self.info (given_of args.entry)) }
         ensures memory_is_never_caught { IsNotWant result →
-            RunsWords T (WithoutMemory (P.outcome self.inner)) (P.describes self.inner)
-            self.info (known_names self.info (P.shorts self.inner)) (given_of args.entry)
-            result }
+            AnswersSpared (P.grammar self.inner) self.info (given_of args.entry) result }
     {
         self.run_inner(args)
     }

@@ -1,5 +1,6 @@
 use Rattle.bpaf_laws.proofs.Keeping.{lawful_falls}
+use Rattle.bpaf_grammar.specs.Laws.{lawful_of}
 use Rattle.bpaf.proofs.laws.count_falls.Goals as goal
 
 pub returns : goal.returns
-returns g c = lawful_falls (g.met.P.Parser.lawful c.args.parser.now)
+returns g c = lawful_falls (lawful_of (g.P.Parser.grammar c.args.parser.now))

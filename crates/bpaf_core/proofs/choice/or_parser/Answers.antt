@@ -1,3 +1,5 @@
+use Rattle.bpaf_grammar.specs.Grammar.{outcome_of}
+use Rattle.bpaf_grammar.specs.Laws.{lawful_of}
 use Rattle.std.proofs.Common.{◌≡◌, true, refl, subst, sym, ◌∙◌, Result, Ok, Err, ap, inr}
 use Rattle.bpaf_line.proofs.Marks.{undone_twice}
 use Rattle.bpaf_line.specs.{declared.error.Error.Error, Messages.is_memory, Situation.Situation}
@@ -24,13 +26,13 @@ returns-in-Err g c = inr (ap is_memory c.from.ensures, c.leave.ensures.back)
 -- the second branch keeps what lies behind its start
 pub undo-requires-then-is_want-2 : goal.undo-requires-then-is_want-2
 undo-requires-then-is_want-2 g c =
-    let marks = rw c.leave.ensures.back at (keeps_of (g.met.P.Parser.lawful c.args.parser.now) _ _ _
+    let marks = rw c.leave.ensures.back at (keeps_of (lawful_of (g.P.Parser.grammar c.args.parser.now)) _ _ _
     c.eval-second.ensures).marks in
     (start_kept (start_behind c.requires.start) (undone_twice c.args.start.mark c.args.state.now) marks).fits
 
 pub returns-then-is_want-2 : goal.returns-then-is_want-2
 returns-then-is_want-2 g c =
-    let marks = rw c.leave.ensures.back at (keeps_of (g.met.P.Parser.lawful c.args.parser.now) _ _ _
+    let marks = rw c.leave.ensures.back at (keeps_of (lawful_of (g.P.Parser.grammar c.args.parser.now)) _ _ _
     c.eval-second.ensures).marks in
     want_outcome _ _ c.eval-second.result (sym c.is_want-2.ensures ∙ c.if-is_want-2.true)
     (c.undo-then-is_want-2.ensures.undone
@@ -40,7 +42,7 @@ pub this_or_that-requires : goal.this_or_that-requires
 this_or_that-requires g c =
     let begins = start_behind c.requires.start in
     let back = undone_twice c.args.start.mark c.args.state.now in
-    let marks = rw c.leave.ensures.back at (keeps_of (g.met.P.Parser.lawful c.args.parser.now) _ _ _
+    let marks = rw c.leave.ensures.back at (keeps_of (lawful_of (g.P.Parser.grammar c.args.parser.now)) _ _ _
     c.eval-second.ensures).marks in
     let led = rw c.leave.ensures.back at c.in-Ok.ensures.left in
     record {
@@ -55,7 +57,7 @@ returns g c =
     let first = c.args.first in
     let t = c.args.state.now in
     let s = start_of c.args.start t in
-    let outcome = g.P.Parser.outcome c.args.parser.now in
+    let outcome = outcome_of (g.P.Parser.grammar c.args.parser.now) in
     let r = c.eval-second.result in
     let u = c.eval-second.new.state in
     let ran = rw c.leave.ensures.back at c.eval-second.ensures in
@@ -64,5 +66,5 @@ returns g c =
     c.this_or_that.new.state (refl, refl, refl) ran (sym c.is_want.ensures ∙ c.if-is_want.false)
     (sym c.is_want-2.ensures ∙ c.if-is_want-2.false)
     (chosen_kept (start_behind c.requires.start) (undone_twice c.args.start.mark t) led
-    (keeps_of (g.met.P.Parser.lawful c.args.parser.now) s r u ran).marks first r
+    (keeps_of (lawful_of (g.P.Parser.grammar c.args.parser.now)) s r u ran).marks first r
     c.this_or_that.result c.this_or_that.new.state c.this_or_that.ensures)

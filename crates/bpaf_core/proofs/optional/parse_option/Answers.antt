@@ -1,3 +1,4 @@
+use Rattle.bpaf_grammar.specs.Laws.{lawful_of}
 use Rattle.std.proofs.Common.{◌∙◌, arith, inl, inr, rules, sym}
 use Rattle.bpaf_laws.proofs.Keeping.{keeps_of}
 use Rattle.bpaf_core.proofs.optional.parse_option.Goals.{then-first, else-first}
@@ -14,7 +15,7 @@ returns-then-len-left g c = (
 
 pub returns-then-stops_step : goal.returns-then-stops_step
 returns-then-stops_step g c =
-    let kept = keeps_of (g.met.P.Parser.lawful c.args.parser.now) _ _ _ c.eval.ensures in
+    let kept = keeps_of (lawful_of (g.P.Parser.grammar c.args.parser.now)) _ _ _ c.eval.ensures in
     inr (
       (
         c.in-Err.error,
@@ -39,4 +40,4 @@ pub returns-else-len-left : goal.returns-else-len-left
 returns-else-len-left g c = grind arith
 
 pub undo-requires : goal.undo-requires
-undo-requires g c = grind (arith, keeps_of (g.met.P.Parser.lawful c.args.parser.now))
+undo-requires g c = grind (arith, keeps_of (lawful_of (g.P.Parser.grammar c.args.parser.now)))

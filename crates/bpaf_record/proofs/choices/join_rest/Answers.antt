@@ -1,7 +1,8 @@
 use Rattle.std.proofs.Common.{sym, arith, ◌∙◌, ap, ap₂, take, true}
 use Rattle.std.proofs.lemmas.List.{take_all}
 use Rattle.bpaf_exact.specs.{Pieces.are_all_apart, ProgramForm.are_words_apart}
-use Rattle.bpaf_record.specs.Grammar.{choice, choices_of, command_words, keys_of, program_form}
+use Rattle.bpaf_grammar.specs.Grammar.{choice, choices_of, command_words, keys_of}
+use Rattle.bpaf_record.specs.Program.{program_form}
 use Rattle.bpaf_record.specs.Part.{chosen_part, form_part}
 use Rattle.bpaf_record.proofs.Parts.{choices_keys, choices_words, one_more, choice_part_is}
 use Rattle.bpaf_record.proofs.choices.join_rest.Goals as goal
@@ -9,7 +10,7 @@ use Rattle.bpaf_record.proofs.choices.join_rest.Goals as goal
 pub loop-index-preserved : goal.loop-index-preserved
 loop-index-preserved g c = (
   omega arith,
-  λ variables. let of = g.P.ProgramField.grammar in let ps = c.args.parsers.now in let i =
+  λ variables. let of = g.P.Parser.grammar in let ps = c.args.parsers.now in let i =
       c.loop-index.index in let d = c.index-parsers-index.result in let before = choices_of of
       (take i ps) in c.or_else-part.ensures ∙ (ap₂
       (λ keys words. chosen_part keys words c.loop-index.part c.part.result)

@@ -1,5 +1,5 @@
 use Rattle.std.proofs.Common.{◌≡◌, ap, codes, rules}
-use Rattle.bpaf.specs.declared.leaves.positional.Position.TheVariants.{Strict, NonStrict}
+use Rattle.bpaf_grammar.specs.declared.position.Position.TheVariants.{Strict, NonStrict}
 use Rattle.bpaf_program.proofs.OfCommands as of
 use Rattle.bpaf_program.specs.Fields.{helped_switch, IsWord}
 use Rattle.bpaf_program.specs.KnownParser.{help_of}

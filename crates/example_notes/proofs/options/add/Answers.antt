@@ -4,7 +4,7 @@ use Rattle.example_notes.specs.Notes as notes
 use Rattle.example_notes.proofs.options.add.Goals as goal
 
 pub returns : goal.returns
-returns c = of.command_known (codes "add") _ _ c.plain_command.ensures refl
+returns c = of.command_known (codes "add") _ c.plain_command.ensures refl
     (of.con_known _ _ (of.both_known _ _ (of.many_known
     (of.argument_known of.MeansText notes.tag_key (search rules)) (search rules))
     (of.last_known _ (of.many_known (of.word_known of.MeansText of.Unrestricted (codes "TEXT") None

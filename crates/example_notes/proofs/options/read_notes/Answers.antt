@@ -30,7 +30,7 @@ run_program-requires-clause-can c =
           (of.map_known notes.add_of _ (rw (← add) at c.add.ensures) (λ x v e. search rules))
           (of.choice_known _ _
           (of.map_known task.List _ (rw (← list) at c.list.ensures) (λ x v e. search rules))
-          (of.map_known task.Tag notes.on_tag (of.command_known (codes "tag") _ _
+          (of.map_known task.Tag notes.on_tag (of.command_known (codes "tag") _
           c.plain_command.ensures on_tag (of.choice_known _ _
           (of.map_known tag.Add _ (rw (← add_tag) at c.named.ensures) (λ x v e. search rules))
           (of.map_known tag.Remove _ (rw (← remove_tag) at c.named-2.ensures)

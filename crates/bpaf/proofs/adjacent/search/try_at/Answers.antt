@@ -1,3 +1,4 @@
+use Rattle.bpaf_grammar.specs.Laws.{lawful_of}
 use Rattle.std.proofs.Common.{refl, sym, ap, ◌∙◌}
 use Rattle.bpaf_line.specs.Situation.{Situation}
 use Rattle.bpaf.specs.Remembering.{failure_of, skipped, found}
@@ -19,7 +20,7 @@ returns-in-Ok-clause-tried g c =
 
 pub keep-kept-requires : goal.keep-kept-requires
 keep-kept-requires g c =
-    let back = attempts_gone (g.met.P.Parser.lawful c.args.parser.now) c.takes_item.ensures.same
+    let back = attempts_gone (lawful_of (g.P.Parser.grammar c.args.parser.now)) c.takes_item.ensures.same
     c.mark-mark.ensures.fits c.mark-mark.ensures.back c.attempts.ensures in
     let same = c.takes_item.ensures.same ∙ sym back.back in
     record {
@@ -32,13 +33,13 @@ keep-kept-requires g c =
 
 pub undo-requires : goal.undo-requires
 undo-requires g c =
-    let back = attempts_gone (g.met.P.Parser.lawful c.args.parser.now) c.takes_item.ensures.same
+    let back = attempts_gone (lawful_of (g.P.Parser.grammar c.args.parser.now)) c.takes_item.ensures.same
     c.mark-mark.ensures.fits c.mark-mark.ensures.back c.attempts.ensures in
     rw c.keep-kept.ensures.same back.fits
 
 pub returns-in_err-kept-in-Err-clause-tried : goal.returns-in_err-kept-in-Err-clause-tried
 returns-in_err-kept-in-Err-clause-tried g c =
-    let back = attempts_gone (g.met.P.Parser.lawful c.args.parser.now) c.takes_item.ensures.same
+    let back = attempts_gone (lawful_of (g.P.Parser.grammar c.args.parser.now)) c.takes_item.ensures.same
     c.mark-mark.ensures.fits c.mark-mark.ensures.back c.attempts.ensures in
     wanted_at _ (back_at back c.keep-kept.ensures.same c.undo.ensures.undone)
     c.in_err-kept-in-Err.ensures.told c.from_residual-in_err-kept-in-Err.ensures
@@ -46,7 +47,7 @@ returns-in_err-kept-in-Err-clause-tried g c =
 
 pub returns-in_ok-kept-in-Err : goal.returns-in_ok-kept-in-Err
 returns-in_ok-kept-in-Err g c =
-    let back = attempts_gone (g.met.P.Parser.lawful c.args.parser.now) c.takes_item.ensures.same
+    let back = attempts_gone (lawful_of (g.P.Parser.grammar c.args.parser.now)) c.takes_item.ensures.same
     c.mark-mark.ensures.fits c.mark-mark.ensures.back c.attempts.ensures in
     let kept = rw back.back at c.in_ok-kept-in-Err.ensures.ok in
     record {

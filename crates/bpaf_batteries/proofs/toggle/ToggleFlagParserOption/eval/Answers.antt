@@ -3,8 +3,4 @@ use Rattle.bpaf_batteries.proofs.toggle.ToggleFlagParserOption.eval.Goals as goa
 
 pub returns-in-Ok-clause-last_toggle_wins : goal.returns-in-Ok-clause-last_toggle_wins
 returns-in-Ok-clause-last_toggle_wins g c = toggle_wins g.T.Clone.is_clone
-    c.args.self.now.toggles.catch _ (c.in-Ok.values, c.in-Ok.ensures.outcome, c.last_of.ensures)
-
-pub returns-in-Ok-clause-memory_is_never_caught : goal.returns-in-Ok-clause-memory_is_never_caught
-returns-in-Ok-clause-memory_is_never_caught g c spared =
-    (c.in-Ok.values, c.in-Ok.ensures.memory_is_never_caught tt, c.last_of.ensures)
+    c.args.self.now.toggles.catch _ (c.in-Ok.values, c.in-Ok.ensures, c.last_of.ensures)

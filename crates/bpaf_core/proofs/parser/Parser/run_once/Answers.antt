@@ -1,4 +1,5 @@
-use Rattle.bpaf_core.proofs.Running.{want_named, want_runs}
+use Rattle.bpaf_core.proofs.Running.{want_runs}
+use Rattle.bpaf_grammar.proofs.Naming.{want_named}
 use Rattle.bpaf_core.proofs.parser.Parser.run_once.Goals as goal
 
 pub returns-in_err-to_options-clause-outcome : goal.returns-in_err-to_options-clause-outcome

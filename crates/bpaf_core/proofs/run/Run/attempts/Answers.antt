@@ -1,5 +1,5 @@
 use Rattle.std.proofs.Common.{◌∙◌}
-use Rattle.bpaf_core.specs.Command.{first_counts}
+use Rattle.bpaf_grammar.specs.Command.{first_counts}
 use Rattle.bpaf_core.proofs.Commanding.{then_retried}
 use Rattle.bpaf_core.proofs.run.Run.attempts.Goals as goal
 

@@ -1,5 +1,5 @@
 use Rattle.std.proofs.Common.{sym, ◌∙◌}
-use Rattle.bpaf_core.specs.Command.{nothing_left, second_counts}
+use Rattle.bpaf_grammar.specs.Command.{nothing_left, second_counts}
 use Rattle.bpaf_core.proofs.Commanding.{back_again, led_again, memory_end, memory_refused}
 use Rattle.bpaf_core.proofs.Commanding.{memory_wanted, second_refuses}
 use Rattle.bpaf_core.proofs.run.Run.retry.Goals as goal

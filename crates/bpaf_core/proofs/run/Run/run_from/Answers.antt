@@ -1,4 +1,4 @@
-use Rattle.bpaf_core.specs.{Ending.leftover, Run.refused, Run.value, Run.leftover as left_over}
+use Rattle.bpaf_grammar.specs.{Ending.leftover, Run.refused, Run.value, Run.leftover as left_over}
 use Rattle.bpaf_core.proofs.run.Run.run_from.Goals as goal
 
 pub returns-in_default : goal.returns-in_default

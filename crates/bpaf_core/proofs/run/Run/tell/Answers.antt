@@ -1,5 +1,5 @@
 use Rattle.std.proofs.Common.{sym, ◌∙◌}
-use Rattle.bpaf_core.specs.Ending.{shown, told, wanting}
+use Rattle.bpaf_grammar.specs.Ending.{shown, told, wanting}
 use Rattle.bpaf_core.proofs.run.Run.tell.Goals as goal
 
 pub returns-in-Ok-Help : goal.returns-in-Ok-Help

@@ -2,18 +2,18 @@ use Rattle.std.proofs.Common.{◌≡◌, ap, refl}
 use Rattle.bpaf_words.specs.Arguments.{given_of}
 use Rattle.bpaf.specs.Run.{known_names}
 use Rattle.bpaf_record.proofs.Running.{answers_as_program, tells_of_words}
-use Rattle.bpaf_program.specs.KnownParser.{shown_shorts}
+use Rattle.bpaf_grammar.specs.{Grammar.describes_of, Words.names_of}
 use Rattle.bpaf_program.proofs.KnownParser.{also_dealt, also_said, asks_for_page, refused_so}
 use Rattle.bpaf_program.proofs.known_options.KnownOptionsCommandLine.run_program.Goals as goal
 
 pub returns-clause-each_exact : goal.returns-clause-each_exact
 returns-clause-each_exact g c agrees r o =
     let known = c.requires.can.1 in
-    let parser = c.args.self.now.options.inner in
+    let parser = g.P.Parser.grammar c.args.self.now.options.inner in
     let grammar = g.K.KnownProgram.grammar in
     let given = given_of c.args.args in
-    answers_as_program (g.P.Parser.describes parser) c.args.self.now.options.info
-    (known_names c.args.self.now.options.info (shown_shorts grammar)) given
+    answers_as_program (describes_of parser) c.args.self.now.options.info
+    (names_of grammar c.args.self.now.options.info) given
     (known.law given.env) (g.K.KnownProgram.whole given.env) r (rw known.shown at o)
 
 pub returns-clause-exact : goal.returns-clause-exact
@@ -21,7 +21,7 @@ returns-clause-exact g c agrees = returns-clause-each_exact g c agrees _ c.run_i
 
 pub returns-clause-fields : goal.returns-clause-fields
 returns-clause-fields g c agrees =
-    tells_of_words (known_names c.args.self.now.options.info (shown_shorts g.K.KnownProgram.grammar))
+    tells_of_words (names_of g.K.KnownProgram.grammar c.args.self.now.options.info)
     g.K.KnownProgram.grammar (given_of c.args.args) _ (returns-clause-exact g c agrees)
 
 pub returns-clause-named : goal.returns-clause-named

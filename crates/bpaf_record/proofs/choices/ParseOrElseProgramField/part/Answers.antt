@@ -1,12 +1,13 @@
 use Rattle.std.proofs.Common.{true}
-use Rattle.bpaf_record.specs.Grammar.{command_words, keys_of, program_form}
+use Rattle.bpaf_grammar.specs.Grammar.{command_words, keys_of}
+use Rattle.bpaf_record.specs.Program.{program_form}
 use Rattle.bpaf_record.proofs.Parts.{choice_part_is}
 use Rattle.bpaf_record.proofs.choices.ParseOrElseProgramField.part.Goals as goal
 
 pub returns : goal.returns
 returns g c variables =
-    let this = g.A.ProgramField.grammar c.args.self.now.this in
-    let that = g.B.ProgramField.grammar c.args.self.now.that in
+    let this = g.A.Parser.grammar c.args.self.now.this in
+    let that = g.B.Parser.grammar c.args.self.now.that in
     rw (
       c.or_else.ensures,
       c.all_keys-keys_apart.ensures,

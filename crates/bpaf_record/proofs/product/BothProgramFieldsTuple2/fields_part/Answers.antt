@@ -1,12 +1,13 @@
 use Rattle.std.proofs.Common.{true}
-use Rattle.bpaf_record.specs.Grammar.{keys_of, program_form}
+use Rattle.bpaf_grammar.specs.Grammar.{keys_of}
+use Rattle.bpaf_record.specs.Program.{program_form}
 use Rattle.bpaf_record.proofs.Parts.{both_part_is}
 use Rattle.bpaf_record.proofs.product.BothProgramFieldsTuple2.fields_part.Goals as goal
 
 pub returns : goal.returns
 returns g c variables =
-    let first = g.A.ProgramField.grammar c.args.self.now.first in
-    let rest = g.R.ProgramFields.grammar c.args.self.now.rest in
+    let first = g.A.Parser.grammar c.args.self.now.first in
+    let rest = g.R.Fields.grammar c.args.self.now.rest in
     rw (
       c.then.ensures,
       c.all_keys-apart.ensures,

@@ -1,0 +1,5 @@
+pub mod Sparing
+pub mod Naming
+pub mod Inside
+pub mod Choices
+pub mod Promises

@@ -1,0 +1,179 @@
+-- All values of a parser on the same words look alike, and its closures agree, where no part of it
+-- can tell apart what looks alike.
+use Rattle.std.proofs.Common.{Bool, List, Option, arith, map, not, true, false, ℕ}
+use Rattle.std.specs.Prelude.{option_map}
+use Rattle.bpaf_doc.specs.declared.doc.Piece.{Piece}
+use Rattle.bpaf_keys.specs.Info.{RunInfo}
+use Rattle.bpaf_laws.specs.Command.{Called}
+use Rattle.bpaf_text.specs.Named.{KeyWithValue, Named as Key}
+use Rattle.bpaf_exact.proofs.OneView.{alone_view, argument_view, both_view, choice_view}
+use Rattle.bpaf_exact.proofs.OneView.{closed_view, command_view, con_view, fallback_view}
+use Rattle.bpaf_exact.proofs.OneView.{field_view, flag_view, if_view, last_view, list_view}
+use Rattle.bpaf_exact.proofs.OneView.{optional_field_view, view_agrees, whole_view, word_view}
+use Rattle.bpaf_exact.specs.Flat.{OwnList, Variables, map_closure, repeated}
+use Rattle.bpaf_exact.specs.ProgramForm.{ProgramForm, choice_only, completed, program_closed}
+use Rattle.bpaf_exact.specs.ProgramForm.{program_dressed, program_field, program_optional}
+use Rattle.bpaf_exact.specs.Says.{Alike, HasOneView, Respects, pair_view}
+use Rattle.bpaf_grammar.specs.declared.position.Position.{Position}
+use Rattle.bpaf_grammar.specs.Grammar.{Default, FieldsGrammar, Grammar, GrammarOf, Look, Repeat}
+use Rattle.bpaf_grammar.specs.Grammar.{Step, alone, answered, argument, both, choice, cloned, closed}
+use Rattle.bpaf_grammar.specs.Grammar.{command, dressed, fallback, flag, guarded}
+use Rattle.bpaf_grammar.specs.Grammar.{keys_of, kept, last, mapped, only, optional, parsed, product}
+use Rattle.bpaf_grammar.specs.Grammar.{repeat, word}
+use Rattle.bpaf_record.specs.Program.{agrees_of, are_unusual, catches, default_agrees}
+use Rattle.bpaf_record.specs.Program.{default_closure, program_form, repeat_closure, step_agrees}
+use Rattle.bpaf_record.specs.Program.{step_closure}
+use Rattle.bpaf_record.proofs.FormLaws.{law_of}
+use Rattle.bpaf.specs.Positional.{accepts}
+
+-- of what is made so all values on the same words look alike
+pub data SeenAs : (fields : Bool) → (T X : Type 0) → (T → X) → GrammarOf fields T → Type 1 where
+  -- clones of one value look alike
+  flag_seen : {T X : Type 0} {see : T → X} {clones : T → T → Type 0} {key : Key} {present : T}
+      {absent : Option T} → ((value : T) → Alike see (clones value))
+      → SeenAs false T X see (flag clones key present absent)
+  -- so do the values that one text means
+  argument_seen : {T X : Type 0} {see : T → X} {means : List ℕ → T → Type 0} {key : KeyWithValue}
+      → ((text : List ℕ) → Alike see (means text)) → SeenAs false T X see (argument means key)
+  word_seen : {T X : Type 0} {see : T → X} {means : List ℕ → T → Type 0} {position : Position}
+      {metavar : List ℕ} {help : Option (List Piece)}
+      → ((text : List ℕ) → Alike see (means text))
+      → SeenAs false T X see (word means position metavar help)
+  kept_seen : {T X : Type 0} {see : T → X} {clones : T → T → Type 0} {value : T}
+      → Alike see (clones value) → SeenAs false T X see (kept clones value)
+  -- the closure can't tell apart what looks alike
+  closed_seen : {A B X Y : Type 0} {see : A → X} {look : B → Y} {f : Step A B} {g : Grammar A}
+      → Respects A B X Y see look (step_closure f) → SeenAs false A X see g
+      → SeenAs false B Y look (closed f g)
+  dressed_seen : {T X : Type 0} {see : T → X} {look : Look} {g : Grammar T}
+      → SeenAs false T X see g → SeenAs false T X see (dressed look g)
+  optional_seen : {T X : Type 0} {see : T → X} {catch : Bool} {g : Grammar T}
+      → SeenAs false T X see g
+      → SeenAs false (Option T) (Option X) (option_map see) (optional catch g)
+  -- what stands in looks alike, and is always there or never
+  fallback_seen : {T X : Type 0} {see : T → X} {shown : Option (List Piece)} {d : Default T}
+      {g : Grammar T} → Alike see (λ v. (default_closure d).yes tt v) → default_agrees d (Unit {0})
+      → SeenAs false T X see g → SeenAs false T X see (fallback shown d g)
+  repeat_seen : {A B X Y : Type 0} {see : A → X} {look : B → Y} {f : Repeat A B} {g : Grammar A}
+      → Respects (List A) B (List X) Y (map see) look (repeat_closure f) → SeenAs false A X see g
+      → SeenAs false B Y look (repeat f g)
+  last_seen : {T X : Type 0} {see : T → X} {g : Grammar T} → SeenAs false T X see g
+      → SeenAs false T X see (last g)
+  choice_seen : {T X : Type 0} {see : T → X} {g h : Grammar T} → SeenAs false T X see g
+      → SeenAs false T X see h → SeenAs false T X see (choice g h)
+  only_seen : {T X : Type 0} {see : T → X} {g : Grammar T} → SeenAs false T X see g
+      → SeenAs false T X see (only g)
+  command_seen : {T X : Type 0} {see : T → X} {adjacent : Bool} {called : Called} {info : RunInfo}
+      {help : Option (List Piece)} {g : Grammar T} → SeenAs false T X see g
+      → SeenAs false T X see (command adjacent called info help g)
+  alone_seen : {T X : Type 0} {see : T → X} {g : Grammar T} → SeenAs false T X see g
+      → SeenAs true T X see (alone g)
+  both_seen : {A B X Y : Type 0} {see : A → X} {look : B → Y} {g : Grammar A} {h : FieldsGrammar B}
+      → SeenAs false A X see g → SeenAs true B Y look h
+      → SeenAs true (A × B) (X × Y) (pair_view see look) (both g h)
+  product_seen : {A B X Y : Type 0} {see : A → X} {look : B → Y} {makes : A → B → Type 0}
+      {g : FieldsGrammar A} → Respects A B X Y see look (map_closure makes) → SeenAs true A X see g
+      → SeenAs false B Y look (product makes g)
+
+-- so it is said of a view of its values
+abbrev pub IsSeen : {fields : Bool} {T X : Type 0} → (T → X) → GrammarOf fields T → Type 1
+IsSeen {fields = fields} {T = T} {X = X} see g = SeenAs fields T X see g
+
+-- a closure that can't tell apart what looks alike agrees
+step_agrees_on : {A B X Y : Type 0} (f : Step A B) {see : A → X} {look : B → Y} {premise : Type 0}
+    (form : Variables → ProgramForm A) → Respects A B X Y see look (step_closure f) → premise
+    → ((variables : Variables) → HasOneView see (form variables)) → step_agrees f premise form
+step_agrees_on (mapped answers) form respects inner one = inner
+step_agrees_on (parsed answers shown) form respects inner one =
+    (inner, λ variables. view_agrees respects.apart (form variables) (one variables))
+step_agrees_on (guarded checks message) form respects inner one =
+    (inner, λ variables. view_agrees respects.apart (form variables) (one variables))
+
+-- so does one that stands in for a value
+default_agrees_on : {T : Type 0} (d : Default T) {premise : Type 0} → premise
+    → default_agrees d (Unit {0}) → default_agrees d premise
+default_agrees_on (cloned clones value) inner agrees = inner
+default_agrees_on (answered answers shown) inner agrees = (inner, agrees.1)
+
+-- another look changes no value
+dressed_view : {T X : Type 0} (see : T → X) (s : ProgramForm T) → HasOneView see s
+    → HasOneView see (program_dressed s)
+dressed_view see s one = grind arith
+
+-- nor does a choice of one
+only_view : {T X : Type 0} (see : T → X) (s : ProgramForm T) → HasOneView see s
+    → HasOneView see (choice_only s)
+only_view see s one = grind arith
+
+mutual
+  -- its closures agree
+  pub agrees_seen : {fields : Bool} {T X : Type 0} {see : T → X} {g : GrammarOf fields T}
+      → SeenAs fields T X see g → agrees_of g
+  agrees_seen (flag_seen one) = tt
+  agrees_seen (argument_seen one) = tt
+  agrees_seen (word_seen one) = tt
+  agrees_seen (kept_seen one) = tt
+  agrees_seen (closed_seen {f = f} {g = g} respects is) =
+      step_agrees_on f (program_form g) respects (agrees_seen is) (view_seen is)
+  agrees_seen (dressed_seen is) = agrees_seen is
+  agrees_seen (optional_seen is) = agrees_seen is
+  agrees_seen (fallback_seen {d = d} one agrees is) = default_agrees_on d (agrees_seen is) agrees
+  agrees_seen (repeat_seen respects is) = agrees_seen is
+  agrees_seen (last_seen is) = agrees_seen is
+  agrees_seen (choice_seen is other) = (agrees_seen is, agrees_seen other)
+  agrees_seen (only_seen is) = agrees_seen is
+  agrees_seen (command_seen is) = agrees_seen is
+  agrees_seen (alone_seen is) = agrees_seen is
+  agrees_seen (both_seen is more) = (agrees_seen is, agrees_seen more)
+  agrees_seen (product_seen respects is) = agrees_seen is
+
+  -- its values look alike
+  pub view_seen : {fields : Bool} {T X : Type 0} {see : T → X} {g : GrammarOf fields T}
+      → SeenAs fields T X see g → (variables : Variables) → HasOneView see (program_form g variables)
+  view_seen (flag_seen {T = T} {X = X} {see = see} {clones = clones} {key = key} {present = present}
+      {absent = absent} one) variables = flag_view T X see clones one key present absent variables
+  view_seen (argument_seen {T = T} {X = X} {see = see} {means = means} {key = key} one) variables =
+      argument_view T X see means one key variables
+  view_seen (word_seen {T = T} {X = X} {see = see} {means = means} {position = position} one)
+      variables = word_view T X see (accepts position) means one
+  view_seen (kept_seen one) variables = λ os. one
+  view_seen (closed_seen {A = A} {B = B} {X = X} {Y = Y} {see = see} {look = look} {f = f} {g = g}
+      respects is) variables = closed_view A B X Y see look (step_closure f) respects
+      (program_form g variables) (view_seen is variables)
+  view_seen (dressed_seen {see = see} {g = g} is) variables =
+      dressed_view see (program_form g variables) (view_seen is variables)
+  view_seen (optional_seen {see = see} {catch = catch} {g = g} is) variables =
+      if_view (option_map see) (program_optional (program_form g variables)) (not catch)
+      (optional_field_view see (law_of g (agrees_seen is) variables) (view_seen is variables))
+  view_seen (fallback_seen {see = see} {d = d} {g = g} one agrees is) variables =
+      fallback_view see (default_closure d) one (law_of g (agrees_seen is) variables)
+      (view_seen is variables)
+  view_seen (repeat_seen {A = A} {B = B} {X = X} {Y = Y} {see = see} {look = look} {f = f} {g = g}
+      respects is) variables =
+      let lists = completed repeated (OwnList A) (program_form g variables) in
+      if_view look (program_closed (repeat_closure f) lists) (not (catches f))
+      (closed_view (List A) B (List X) Y (map see) look (repeat_closure f) respects lists
+      (whole_view see (map see) repeated (OwnList A) list_view
+      (law_of g (agrees_seen is) variables) (view_seen is variables)))
+  view_seen (last_seen {see = see} {g = g} is) variables =
+      last_view see (law_of g (agrees_seen is) variables) (view_seen is variables)
+  view_seen (choice_seen {see = see} {g = g} {h = h} is other) variables =
+      choice_view see (program_form g variables) (program_form h variables)
+      (law_of g (agrees_seen is) variables) (law_of h (agrees_seen other) variables)
+      (view_seen is variables) (view_seen other variables)
+  view_seen (only_seen {see = see} {g = g} is) variables =
+      only_view see (program_form g variables) (view_seen is variables)
+  view_seen (command_seen {see = see} {adjacent = adjacent} {called = called} {info = info} {g = g}
+      is) variables = command_view see adjacent (are_unusual (keys_of g false) info) called
+      (program_form g variables) (law_of g (agrees_seen is) variables) (view_seen is variables)
+  view_seen (alone_seen {see = see} {g = g} is) variables =
+      alone_view see (program_field (program_form g variables))
+      (field_view see (law_of g (agrees_seen is) variables) (view_seen is variables))
+  view_seen (both_seen {A = A} {B = B} {X = X} {Y = Y} {see = see} {look = look} {g = g} {h = h} is
+      more) variables = both_view A B X Y see look (keys_of g true) (keys_of h true)
+      (program_field (program_form g variables)) (program_form h variables)
+      (field_view see (law_of g (agrees_seen is) variables) (view_seen is variables))
+      (view_seen more variables)
+  view_seen (product_seen {A = A} {B = B} {X = X} {Y = Y} {see = see} {look = look} {makes = makes}
+      {g = g} respects is) variables = con_view A B X Y see look (map_closure makes) respects
+      (program_form g variables) (view_seen is variables)
