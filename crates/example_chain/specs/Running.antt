@@ -1,10 +1,8 @@
--- What a run of the program answers: the steps that its words have, a line for each, and what it
--- shows where it is asked for help.
+-- What a run answers: the steps that its words have, a line for each, or a page of help.
 use Rattle.std.specs.Prelude.{◌≡◌, ℕ, ℤ, Bool, List, [], ◌∷◌, Some, codes, ◌++◌, if◌then◌else◌}
 use Rattle.std.specs.{Fmt.decimal, Fmt.signed_decimal, Prelude.true, Global.Vec}
 use mir.Syntax.{w64}
-use Rattle.bpaf_doc.specs.Print.{text_pieces, printed}
-use Rattle.bpaf_doc.specs.{declared.doc.Piece.Piece, Names.Names}
+use Rattle.bpaf_doc.specs.{declared.doc.Piece.Piece, Names.Names, Print.printed, Print.text_pieces}
 use Rattle.bpaf_text.specs.Meaning.{SpellsSigned, SpellsUnsigned}
 use Rattle.bpaf_words.specs.Arguments.{Given}
 use Rattle.bpaf_laws.specs.Command.{named_only}

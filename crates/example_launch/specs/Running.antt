@@ -1,5 +1,4 @@
--- What a run of the program answers: the launch that its words ask for, its lines, and what it
--- shows where it is asked for help.
+-- What a run answers: the launch that its words ask for, its lines, or the help page.
 use Rattle.std.specs.Prelude.{string_bytes, Contains, codes, Bool, List, Some, ◌≡◌, ◌∷◌, map, [], ℕ}
 use Rattle.std.specs.{Prelude.Result, Prelude.◌++◌, Global.Vec}
 use Rattle.bpaf_doc.specs.{declared.doc.Piece.Piece, Print.printed, Names.Names}
@@ -86,7 +85,6 @@ pub data Answers (words : List (List ℕ)) : List ℕ → Type 0 where
   help : (doc : List Piece) (full : Bool) → IsHelpAsked words doc full
       → Answers words (printed full doc)
 
--- An answer to words is such a text; where they have a launch it is the lines of that, or want of
--- memory. All launches that the same words have print the same lines.
+-- an answer to words is such a text; where they have a launch it is its lines, or want of memory
 abbrev pub AnswersLines : List (List ℕ) → Result String ParseFailure → Type 0
 AnswersLines words = AnswersByText (Answers words) (IsLaunchValue words) lines

@@ -1,7 +1,6 @@
 use Rattle.std.proofs.Common.{◌≡◌, ap₂, map, refl, rules, string_bytes}
 use Rattle.bpaf_words.specs.Arguments.{given_of}
-use Rattle.bpaf_keys.specs.Info.{plain_info}
-use Rattle.bpaf.specs.Run.{known_names}
+use Rattle.bpaf.specs.{Info.plain_info, Run.known_names}
 use Rattle.bpaf_program.proofs.OfCommands as of
 use Rattle.example_chain.specs.Running as chain
 use Rattle.example_chain.proofs.steps.read_steps.Goals as goal

@@ -1,6 +1,5 @@
 use Rattle.std.proofs.Common.{codes, refl, rules}
-use Rattle.bpaf_program.specs.Fields.{IsWord}
-use Rattle.bpaf_program.specs.KnownParser.{help_of}
+use Rattle.bpaf_program.specs.{Fields.IsWord, KnownParser.help_of}
 use Rattle.bpaf_program.proofs.OfCommands as of
 use Rattle.example_chain.specs.Running.{left_names}
 use Rattle.example_chain.proofs.steps.turn.Goals as goal

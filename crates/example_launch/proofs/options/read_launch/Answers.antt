@@ -1,8 +1,7 @@
 use Rattle.std.proofs.Common.{◌≡◌, ap, codes, rules}
 use Rattle.bpaf_grammar.specs.declared.position.Position.TheVariants.{Strict, NonStrict}
 use Rattle.bpaf_program.proofs.OfCommands as of
-use Rattle.bpaf_program.specs.Fields.{helped_switch, IsWord}
-use Rattle.bpaf_program.specs.KnownParser.{help_of}
+use Rattle.bpaf_program.specs.{Fields.IsWord, Fields.helped_switch, KnownParser.help_of}
 use Rattle.example_launch.specs.Running as launch
 use Rattle.example_launch.proofs.Dealing.{launch_asked}
 use Rattle.example_launch.proofs.options.read_launch.Goals as goal
