@@ -1,13 +1,14 @@
 -- The parsers of a program, and their fields, are known where what they are made of is.
 use Rattle.std.proofs.Common.{IsUtf8, Result, Option, false, arith, List, refl, true, Bool, Some, ℕ}
 use Rattle.std.proofs.Common.{All, ap₂, ◌∙◌, ◌≡◌, Err, inl, inr, ap, Ok, None, IfOk, [], ◌∷◌}
+use Rattle.std.proofs.Common.{⊎_elim}
 use Rattle.std.specs.{Result.IfErr}
 use Rattle.bpaf_grammar.specs.Grammar.{closed, cloned, describes_of, fallback, flag, many, mapped}
 use Rattle.bpaf_grammar.specs.Grammar.{optional, outcome_of, product, repeat, FieldsGrammar}
 use Rattle.bpaf_grammar.specs.Grammar.{argument, Grammar, choice, alone, both, word, command}
-use Rattle.bpaf_grammar.specs.Grammar.{keys_of}
+use Rattle.bpaf_grammar.specs.Grammar.{guarded, keys_of}
 use Rattle.bpaf_grammar.specs.{Laws.lawful_of, Words.Answers, Words.Deals, Words.names_of}
-use Rattle.bpaf_record.proofs.FormLaws.{law_of}
+use Rattle.bpaf_record.proofs.{FormLaws.law_of, LookAlike.IsSeen, LookAlike.agrees_seen}
 use Rattle.bpaf_record.specs.Program.{agrees_of, program_form, are_unusual}
 use Rattle.bpaf.specs.Asked.{HandsOn, RunShows, IfShown, Showing}
 use Rattle.bpaf_doc.specs.{declared.doc.Piece.Piece, Shape.Shape, Names.Names}
@@ -16,7 +17,7 @@ use Rattle.bpaf_text.specs.Named.{KeyWithValue, key_named, Named}
 use Rattle.bpaf_line.specs.{declared.failure.ParseFailure.ParseFailure}
 use Rattle.bpaf_line.specs.declared.failure.ParseFailure.TheVariants as failure
 use Rattle.bpaf_laws.specs.Combinators.{MapOutcome, EachReads, ListReads, MapReads, OptionalReads}
-use Rattle.bpaf_laws.specs.Combinators.{PureReads}
+use Rattle.bpaf_laws.specs.Combinators.{GuardOutcome, PureReads}
 use Rattle.bpaf_laws.specs.Command.{Called, CommandReads}
 use Rattle.bpaf_laws.specs.{Command.opening_words, Laws.joined_shorts}
 use Rattle.bpaf_laws.specs.Choice.{ChoiceReads}
@@ -35,13 +36,14 @@ use Rattle.bpaf.proofs.HandsOn.{command_hands_on, choice_hands_on, behind_also}
 use Rattle.bpaf_exact.proofs.ProgramForm.{program_choice_law, program_alone_law, program_field_law}
 use Rattle.bpaf_exact.proofs.ProgramForm.{program_both_law, program_con_law, narrower_form, no_more}
 use Rattle.bpaf_exact.proofs.ProgramForm.{AllowsNoMore, fallback_law, optional_law, many_law}
-use Rattle.bpaf_exact.proofs.{ProgramForm.map_law}
+use Rattle.bpaf_exact.proofs.{ProgramForm.guard_law, ProgramForm.map_law}
 use Rattle.bpaf_record.specs.{Commands.either_command_law}
 use Rattle.bpaf_record.specs.Record.{AnswersAsProgram}
 use Rattle.bpaf_program.specs.KnownParser.{AreKnownFields, known_optional, IsKnownParser, IsAlso}
 use Rattle.bpaf_program.specs.KnownParser.{program_names, known_command, known_default, inner_pages}
 use Rattle.bpaf_program.specs.KnownParser.{known_switch, IsDealtBy, IsExactFor, known_many}
-use Rattle.bpaf_program.specs.KnownParser.{known_con, known_map, IsPageOf}
+use Rattle.bpaf_program.specs.KnownParser.{known_con, known_guard, known_map, IsPageOf}
+use Rattle.bpaf_program.proofs.LookAlike.{guard_seen}
 use Rattle.bpaf_program.specs.{KnownParser.IsValueBy, Fields.IsPlainCommand, KnownParser.IsKept}
 
 -- what is dealt out to the one is dealt out to the other
@@ -147,6 +149,12 @@ module _ {A B : Type 0} (inner : Outcome A) {answers wanted : A → B → Type 0
   map_within : AllowsNoMore B (MapOutcome inner wanted) (MapOutcome inner answers)
   map_within = grind (arith, no_more)
 
+-- a guard whose check answers less
+guard_within : {T : Type 0} (inner : Outcome T) {checks wanted : T → Bool → Type 0}
+    (message : List ℕ) → ((x : T) (b : Bool) → checks x b → wanted x b)
+    → AllowsNoMore T (GuardOutcome inner wanted message) (GuardOutcome inner checks message)
+guard_within inner message only = grind (arith, no_more)
+
 -- what is made as its grammar says is known by it
 module _ {T : Type 0} (g : Grammar T) (premise : agrees_of g)
     (hands : HandsOn (inner_pages g) (outcome_of g)) where
@@ -219,6 +227,25 @@ map_known make known {one} inner {answers} only = record {
   shown = inner.shown;
   hands = record { all = λ s e t doc full o is. inner.hands.all s e t doc full o is };
 }
+
+-- a guard, which checks what is seen, so that it agrees
+pub guard_known : {T X : Type 0} {see : T → X} (check : X → Bool) {message : List ℕ}
+    {known one : Grammar T} → IsSeen see known → IsKnownParser known one
+    → {checks : T → Bool → Type 0} → ((x : T) (b : Bool) → checks x b → b ≡ check (see x))
+    → {text : List ℕ} → text ≡ message
+    → IsKnownParser (known_guard see check message known) (closed (guarded checks text) one)
+guard_known {see = see} check {message} {known} {one} seen inner only text_is = rw text_is (record {
+  law = λ env. narrower_form (guard_within (outcome_of one) message only) (guard_law (inner.law env)
+      (λ x b. b ≡ check (see x)) message
+      ((agrees_seen {g = known_guard see check message known} (guard_seen seen check)).1 env));
+  also = made_also inner.also (λ x v made. (made.0, only x true made.1));
+  shows = inner.shows;
+  shown = inner.shown;
+  hands = record {
+    all = λ s e t doc full o is. ⊎_elim (λ refused. inner.hands.all s e t doc full refused is)
+        (λ checked. ⊎_elim (λ failed. absurd cc) (λ memory. absurd cc) checked.3) o;
+  };
+})
 
 -- a last field
 pub last_known : {T : Type 0} (known : Grammar T) {made : Grammar T} → IsKnownParser known made

@@ -1,6 +1,6 @@
 -- Parsers of programs all of whose values on the same words look alike.
 use Rattle.std.proofs.Common.{◌≡◌, ◌∙◌, All, Bool, IsUtf8, List, Option, ap, arith, map, string_bytes}
-use Rattle.std.proofs.Common.{sym, ℕ}
+use Rattle.std.proofs.Common.{sym, true≢false, ℕ}
 use Rattle.bpaf_doc.specs.{Names.Names, declared.doc.Piece.Piece}
 use Rattle.bpaf_words.specs.{Arguments.Given, Line.Known}
 use Rattle.bpaf_text.specs.{Meaning.SpellsUnsigned, Named.KeyWithValue}
@@ -17,7 +17,8 @@ use Rattle.bpaf_record.proofs.LookAlike.{fallback_seen, flag_seen, product_seen,
 use Rattle.bpaf_record.proofs.LookAlike.{view_seen, word_seen}
 use Rattle.bpaf_record.proofs.Running.{same_context}
 use Rattle.bpaf_program.specs.KnownParser.{IsValueBy, MeansText, String, known_con, known_default}
-use Rattle.bpaf_program.specs.KnownParser.{known_many, known_map, known_switch, makes, program_names}
+use Rattle.bpaf_program.specs.KnownParser.{known_guard, known_many, known_map, known_switch, makes}
+use Rattle.bpaf_program.specs.KnownParser.{program_names}
 
 -- a switch
 pub switch_seen : {names : Names} {help : Option (List Piece)}
@@ -53,6 +54,14 @@ module _ {T X : Type 0} {see : T → X} {g : Grammar T} (is : IsSeen see g) wher
   -- what is this value where it is left out
   pub default_seen : (value : T) → IsSeen see (known_default value g)
   default_seen value = fallback_seen (λ v w a b. ap see (a ∙ sym b)) tt is
+
+  -- a guard, which checks what is seen
+  pub guard_seen : (check : X → Bool) {message : List ℕ}
+      → IsSeen see (known_guard see check message g)
+  guard_seen check = closed_seen (record {
+    same = λ x y v w e f g. ap see f.0 ∙ (e ∙ sym (ap see g.0));
+    apart = λ x y v e f n. absurd (true≢false (f.1 ∙ (ap check e ∙ sym n)));
+  }) is
 
 -- all values of the program on the same words look alike
 pub program_looks_one : {T X : Type 0} {see : T → X} (g : Grammar T) → IsSeen see g

@@ -6,7 +6,7 @@ use Rattle.std.specs.{declared.alloc.Global.Global, Global.Vec}
 use Rattle.bpaf_grammar.specs.Grammar.{shorts_of, outcome_of, mapped, many, cloned, FieldsGrammar}
 use Rattle.bpaf_grammar.specs.Grammar.{command_words, GrammarOf, choice, fallback, optional}
 use Rattle.bpaf_grammar.specs.Grammar.{Grammar, command, keys_of, both, product, closed, repeat}
-use Rattle.bpaf_grammar.specs.Grammar.{alone, flag, describes_of, reads_of}
+use Rattle.bpaf_grammar.specs.Grammar.{alone, flag, describes_of, guarded, reads_of}
 use Rattle.bpaf_grammar.specs.Words.{Deals, names_of}
 use Rattle.bpaf_words.specs.{Arguments.Given, Line.Known}
 use Rattle.bpaf_line.specs.declared.failure.ParseFailure.{ParseFailure}
@@ -126,6 +126,11 @@ known_default value = fallback None (cloned IsKept value)
 -- what this is made of
 abbrev pub known_map : {A B : Type 0} → (A → B) → Grammar A → Grammar B
 known_map make = closed (mapped (λ x v. v ≡ make x))
+
+-- a value of which what is seen passes this check; else it is refused with a message
+abbrev pub known_guard : {T X : Type 0} → (T → X) → (X → Bool) → (message : List ℕ) → Grammar T
+    → Grammar T
+known_guard see check message = closed (guarded (λ x b. b ≡ check (see x)) message)
 
 -- a command of this word over a program
 abbrev pub known_command : {T : Type 0} → List ℕ → Grammar T → Grammar T

@@ -1,3 +1,4 @@
 pub mod Ending
 pub mod KnownParser
 pub mod Fields
+pub mod OfCommands

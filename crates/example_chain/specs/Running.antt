@@ -1,16 +1,12 @@
 -- What a run answers: the steps that its words have, a line for each, or a page of help.
 use Rattle.std.specs.Prelude.{◌≡◌, ℕ, ℤ, Bool, List, [], ◌∷◌, Some, codes, ◌++◌, if◌then◌else◌}
 use Rattle.std.specs.{Fmt.decimal, Fmt.signed_decimal, Prelude.true, Global.Vec}
+use Rattle.bpaf_program.specs.OfCommands.{alone, both, choice, command, FieldsGrammar, Grammar}
+use Rattle.bpaf_program.specs.OfCommands.{word, known_con, known_many, known_map, known_switch}
+use Rattle.bpaf_program.specs.OfCommands.{Given, help_of, IsDealtBy, IsPageOf, line, named_only}
+use Rattle.bpaf_program.specs.OfCommands.{Names, Piece, plain_info, printed, RunInfo, short_descr}
+use Rattle.bpaf_program.specs.OfCommands.{SpellsSigned, SpellsUnsigned, text_pieces, Unrestricted}
 use mir.Syntax.{w64}
-use Rattle.bpaf_doc.specs.{declared.doc.Piece.Piece, Names.Names, Print.printed, Print.text_pieces}
-use Rattle.bpaf_text.specs.Meaning.{SpellsSigned, SpellsUnsigned}
-use Rattle.bpaf_words.specs.Arguments.{Given}
-use Rattle.bpaf_laws.specs.Command.{named_only}
-use Rattle.bpaf_keys.specs.Info.{RunInfo, plain_info, short_descr}
-use Rattle.bpaf_grammar.specs.declared.position.Position.TheVariants.{Unrestricted}
-use Rattle.bpaf_grammar.specs.Grammar.{FieldsGrammar, Grammar, alone, both, choice, command, word}
-use Rattle.bpaf_program.specs.KnownParser.{IsDealtBy, IsPageOf, help_of, known_con, known_many}
-use Rattle.bpaf_program.specs.{KnownParser.known_map, KnownParser.known_switch, Ending.line}
 use Rattle.example_chain.specs.declared.steps.Step.{Step}
 use Rattle.example_chain.specs.declared.steps.Step.TheVariants.{Move, Turn, Repeat}
 

@@ -1,9 +1,7 @@
 //! The steps of a chain, as adjacent commands.
 ghost use Rattle.std.specs.Prelude.{◌≡◌, ◌≤◌, length, IfOk, None, map, string_bytes, true};
 ghost use Rattle.std.specs.Result.{IfErr};
-ghost use Rattle.bpaf_laws.specs.Command.{named_only};
-ghost use Rattle.bpaf.specs.Asked.{IfShown};
-ghost use Rattle.bpaf_program.specs.KnownParser.{IsKnownParser};
+ghost use Rattle.bpaf_program.specs.OfCommands.{IfShown, IsKnownParser, named_only};
 ghost use Rattle.example_chain.specs.Running.{AreDealtSteps, described, IsHelpAsked};
 ghost use Rattle.example_chain.specs.Running.{go_parser, repeat_parser, turn_parser};
 

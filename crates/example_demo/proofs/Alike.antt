@@ -1,7 +1,6 @@
 -- All values of the program on words print the same lines.
 use Rattle.std.proofs.Common.{◌++◌, ℕ, Bool, List, All, IsUtf8, ap, codes}
 use Rattle.std.specs.Fmt.{decimal}
-use Rattle.bpaf_program.specs.{Ending.line, Ending.truth}
 use Rattle.bpaf_program.proofs.OfCommands as of
 use Rattle.example_demo.specs.Running.{IsOptionsOf, file_lines, lines, options_of}
 use Rattle.example_demo.specs.Running.{program_given, record_of}
@@ -12,7 +11,7 @@ same_lines words =
     of.program_looks_one record_of
     (of.con_seen options_of lines
     (λ x y same. ap (λ (seen : Bool × (ℕ × List (List ℕ))).
-    line (codes "verbose: " ++ truth seen.0) ++ line (codes "num: " ++ decimal seen.1.0)
+    of.line (codes "verbose: " ++ of.truth seen.0) ++ of.line (codes "num: " ++ decimal seen.1.0)
     ++ file_lines seen.1.1) same)
     (of.both_seen of.switch_seen
     (of.both_seen of.number_seen (of.alone_seen (of.many_seen of.text_word_seen)))))

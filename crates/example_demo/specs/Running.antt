@@ -2,19 +2,13 @@
 -- it shows where it is asked for help.
 use Rattle.std.specs.Prelude.{Result, false, codes, Bool, true, List, Some, ◌++◌, ◌≡◌, ◌∷◌, ℕ, []}
 use Rattle.std.specs.{Prelude.string_bytes, Prelude.map, Fmt.decimal, Global.Vec}
-use Rattle.bpaf_doc.specs.{declared.doc.Piece.Piece, Print.printed, Names.Names}
-use Rattle.bpaf_text.specs.Meaning.{SpellsUnsigned}
-use Rattle.bpaf_text.specs.Named.{KeyWithValue, key_named}
-use Rattle.bpaf_words.specs.Arguments.{Given}
-use Rattle.bpaf_line.specs.declared.failure.ParseFailure.{ParseFailure}
-use Rattle.bpaf_keys.specs.Info.{plain_info}
-use Rattle.bpaf_grammar.specs.declared.position.Position.TheVariants.{Unrestricted}
-use Rattle.bpaf.specs.Asked.{IfShown}
-use Rattle.bpaf_grammar.specs.Grammar.{FieldsGrammar, argument, Grammar, alone, both, word}
-use Rattle.bpaf_program.specs.KnownParser.{known_switch, known_many, IsExactFor, MeansText, String}
-use Rattle.bpaf_program.specs.KnownParser.{known_con, IsDealtBy, IsPageOf, IsValueBy, help_of}
-use Rattle.bpaf_program.specs.Fields.{helped_argument}
-use Rattle.bpaf_program.specs.Ending.{AnswersByText, PrintsTextOf, line_each, Written, truth, line}
+use Rattle.bpaf_program.specs.OfCommands.{alone, argument, both, FieldsGrammar, Grammar, word, line}
+use Rattle.bpaf_program.specs.OfCommands.{known_con, known_many, known_switch, AnswersByText, Given}
+use Rattle.bpaf_program.specs.OfCommands.{help_of, helped_argument, IfShown, IsDealtBy, IsExactFor}
+use Rattle.bpaf_program.specs.OfCommands.{IsPageOf, IsValueBy, key_named, KeyWithValue, line_each}
+use Rattle.bpaf_program.specs.OfCommands.{MeansText, Names, ParseFailure, Piece, plain_info, String}
+use Rattle.bpaf_program.specs.OfCommands.{printed, PrintsTextOf, SpellsUnsigned, truth, Written}
+use Rattle.bpaf_program.specs.OfCommands.{Unrestricted}
 use Rattle.example_demo.specs.declared.options.Options.{Options}
 
 -- the names of the switch

@@ -5,3 +5,4 @@ pub mod Head
 pub mod Remove
 pub mod Toggle
 pub mod Told
+pub mod Share

@@ -1,6 +1,6 @@
 //! The programs of docs/GUIDE.md and docs/FACTS.md: a parser, a value and a collection of a caller's
-//! own, a backup, a remover, a `head`, an archiver, a dimmer, programs with commands and a row of a
-//! test. `main` runs them.
+//! own, a backup, a remover, a `head`, an archiver, a dimmer, programs with commands, one of them
+//! with guards on texts, and a row of a test. `main` runs them.
 //!
 //! It stands on `bpaf`, `bpaf_record` and `bpaf_program`, and its definitions also cite those of
 //! the crates below. It has no contract for a layer above: it is the top.
@@ -22,6 +22,7 @@ mod keys;
 mod options;
 mod remove;
 mod row;
+mod share;
 mod sum;
 mod tasks;
 mod toggle;
@@ -79,6 +80,7 @@ fn show_all(rt: &HostRuntime, size: u128) -> io::Result<()> {
     show_archive(rt)?;
     show_dimming(rt)?;
     show_cleaning(rt)?;
+    show_share(rt)?;
     tell(rt, "row", row::read_seconds(rt.alloc(), &["-s", "5"]))?;
     tell(
         rt,
@@ -157,6 +159,15 @@ fn show_dimming(rt: &HostRuntime) -> io::Result<()> {
 fn show_cleaning(rt: &HostRuntime) -> io::Result<()> {
     let words = words_of(rt.alloc(), &["remove", "-f", "a"])?;
     tell(rt, "cleaning", clean::read_cleaning(rt.alloc(), &words))
+}
+
+/// Tells what is shared by words of its own, of which two have an empty name.
+fn show_share(rt: &HostRuntime) -> io::Result<()> {
+    for (user, file) in [("ann", "a"), ("", "a"), ("ann", "")] {
+        let words = words_of(rt.alloc(), &["add", file, "-u", user])?;
+        tell(rt, "share", share::read_share(rt.alloc(), &words))?;
+    }
+    Ok(())
 }
 
 /// Tells what the list of tasks reads off words of its own.

@@ -2,16 +2,14 @@
 use Rattle.std.proofs.Common.{◌++◌, All, Bool, IsUtf8, List, ap, codes, ℕ, ◌≡◌, None, IfOk, Ok}
 use Rattle.std.proofs.Common.{Err, Result, map, inl, inr, string_bytes, subst, sym, true≢false, ◌∙◌}
 use Rattle.std.specs.List.{Contains}
-use Rattle.bpaf_line.specs.declared.failure.ParseFailure.{ParseFailure}
-use Rattle.bpaf_grammar.specs.declared.position.Position.TheVariants.{NonStrict, Strict}
-use Rattle.bpaf.specs.{Marker.words_before, Marker.words_behind, Positional.accepts}
 use Rattle.bpaf_exact.specs.{Flat.FrontOf, Flat.SingleValue, Flat.gap_of, Pieces.LinePiece}
 use Rattle.bpaf_exact.specs.{Pieces.others, ProgramForm.WordValue, ProgramForm.flag_roles}
 use Rattle.bpaf_exact.specs.Says.{WordSays}
 use Rattle.bpaf_exact.proofs.Says.{list_says, front_says, word_says}
 use Rattle.bpaf_record.proofs.Answered.{flag_leaves, line_behind, name_before, strict_words}
-use Rattle.bpaf_program.specs.{Ending.line, Ending.line_each, Ending.truth, KnownParser.String}
-use Rattle.bpaf_program.proofs.{WordsBefore.word_before, Texts.texts_are}
+use Rattle.bpaf_program.proofs.OfCommands.{NonStrict, ParseFailure, Strict, String, accepts, line}
+use Rattle.bpaf_program.proofs.OfCommands.{line_each, texts_are, truth, word_before, words_before}
+use Rattle.bpaf_program.proofs.OfCommands.{words_behind}
 use Rattle.bpaf_program.proofs.OfCommands as of
 use Rattle.example_launch.specs.declared.options.Launch.{Launch}
 use Rattle.example_launch.specs.Running as run

@@ -1,16 +1,12 @@
 -- What a run answers: the launch that its words ask for, its lines, or the help page.
 use Rattle.std.specs.Prelude.{string_bytes, Contains, codes, Bool, List, Some, ◌≡◌, ◌∷◌, map, [], ℕ}
 use Rattle.std.specs.{Prelude.Result, Prelude.◌++◌, Global.Vec}
-use Rattle.bpaf_doc.specs.{declared.doc.Piece.Piece, Print.printed, Names.Names}
-use Rattle.bpaf_words.specs.Arguments.{Given}
-use Rattle.bpaf_line.specs.declared.failure.ParseFailure.{ParseFailure}
-use Rattle.bpaf_keys.specs.Info.{plain_info}
-use Rattle.bpaf_grammar.specs.declared.position.Position.TheVariants.{NonStrict, Strict}
-use Rattle.bpaf.specs.{Marker.words_before, Marker.words_behind, Asked.IfShown}
-use Rattle.bpaf_grammar.specs.Grammar.{FieldsGrammar, Grammar, alone, both, word}
-use Rattle.bpaf_program.specs.KnownParser.{known_switch, known_many, IsExactFor, MeansText, String}
-use Rattle.bpaf_program.specs.KnownParser.{known_con, IsDealtBy, IsPageOf, IsValueBy, help_of}
-use Rattle.bpaf_program.specs.Ending.{AnswersByText, line_each, truth, line}
+use Rattle.bpaf_program.specs.OfCommands.{alone, both, FieldsGrammar, Grammar, word, known_con}
+use Rattle.bpaf_program.specs.OfCommands.{known_many, known_switch, AnswersByText, Given, help_of}
+use Rattle.bpaf_program.specs.OfCommands.{IfShown, IsDealtBy, IsExactFor, IsPageOf, IsValueBy, line}
+use Rattle.bpaf_program.specs.OfCommands.{line_each, MeansText, Names, NonStrict, ParseFailure}
+use Rattle.bpaf_program.specs.OfCommands.{Piece, plain_info, printed, Strict, String, truth}
+use Rattle.bpaf_program.specs.OfCommands.{words_before, words_behind}
 use Rattle.example_launch.specs.declared.options.Launch.{Launch}
 
 -- the names of the switch by which more is told

@@ -1,8 +1,7 @@
 //! The words of a launcher, and those that it passes on.
 ghost use Rattle.std.specs.Prelude.{◌≡◌, IfOk, codes, false, map, string_bytes};
 ghost use Rattle.std.specs.Result.{IfErr};
-ghost use Rattle.bpaf_grammar.specs.declared.position.Position.TheVariants.{NonStrict, Strict};
-ghost use Rattle.bpaf_program.specs.Fields.{helped_switch, IsWord};
+ghost use Rattle.bpaf_program.specs.OfCommands.{IsWord, NonStrict, Strict, helped_switch};
 ghost use Rattle.example_launch.specs.Running.{IsLaunchOf, dry_run_names, verbose_names};
 ghost use Rattle.example_launch.specs.Running.{AnswersLaunch, ShowsHelpAsked, launcher};
 

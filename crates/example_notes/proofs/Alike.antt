@@ -1,7 +1,5 @@
 -- All values of the program on the same words print the same lines.
 use Rattle.std.proofs.Common.{List, ap, map, refl, string_bytes}
-use Rattle.bpaf_program.specs.KnownParser.{String}
-use Rattle.bpaf_exact.specs.Says.{pair_view}
 use Rattle.bpaf_program.proofs.OfCommands as of
 use Rattle.example_notes.specs.Notes.{lines, tag_lines, task_lines}
 use Rattle.example_notes.specs.declared.options.Tag.TheVariants as tag
@@ -9,7 +7,8 @@ use Rattle.example_notes.specs.declared.options.Task.TheVariants as task
 use Rattle.example_notes.specs.Notes as notes
 
 -- of all values the lines are seen
-pub same_lines : (words : List String) → of.Alike lines (notes.IsNotesOf (map string_bytes words))
+pub same_lines : (words : List of.String)
+    → of.Alike lines (notes.IsNotesOf (map string_bytes words))
 same_lines words =
     of.program_looks_one notes.notes_parser (of.con_seen notes.notes_of lines
     (λ x y same. rw (ap (λ p. p.0) same, ap (λ p. p.1.0) same, ap (λ p. p.1.1) same) refl)
@@ -17,7 +16,8 @@ same_lines words =
     (of.choice_seen (of.map_seen notes.add_of task_lines
     (λ x y same. rw (ap (λ p. p.0) same, ap (λ p. p.1) same) refl)
     (of.command_seen (of.con_seen (λ values. values)
-    (pair_view (λ values. map string_bytes values.items) (λ values. map string_bytes values.items))
+    (of.pair_view (λ values. map string_bytes values.items)
+    (λ values. map string_bytes values.items))
     (λ x y same. same) (of.both_seen (of.many_seen of.text_seen)
     (of.alone_seen (of.many_seen of.text_word_seen))))))
     (of.choice_seen (of.map_seen task.List task_lines (λ x y same. cc)

@@ -2,22 +2,16 @@
 -- does.
 use Rattle.std.specs.Prelude.{string_bytes, option_map, Option, Result, codes, List, ◌++◌, Some, []}
 use Rattle.std.specs.Prelude.{None, Bool, ◌≡◌, map, ◌∷◌, ℕ}
-use Rattle.std.specs.{Fmt.decimal, Global.Vec}
-use Rattle.bpaf_program.specs.Ending.{AnswersByText, line_each, IsTextOf, OrPage, truth, line}
-use Rattle.bpaf_program.specs.KnownParser.{known_optional, known_command, known_default, known_many}
-use Rattle.bpaf_program.specs.KnownParser.{known_switch, IsExactFor, known_con, known_map, IsPageOf}
-use Rattle.bpaf_program.specs.KnownParser.{IsValueBy, MeansText, String}
-use Rattle.bpaf_program.specs.Fields.{plain_argument}
+use Rattle.std.specs.{Fmt.decimal, Global.Vec, Result.IfErr}
+use Rattle.bpaf_program.specs.OfCommands.{alone, argument, both, choice, FieldsGrammar, Grammar}
+use Rattle.bpaf_program.specs.OfCommands.{word, known_command, known_con, known_default, known_many}
+use Rattle.bpaf_program.specs.OfCommands.{known_map, known_optional, known_switch, AnswersByText}
+use Rattle.bpaf_program.specs.OfCommands.{Given, IfShown, IsExactFor, IsPageOf, IsTextOf, IsValueBy}
+use Rattle.bpaf_program.specs.OfCommands.{KeyWithValue, line, line_each, MeansText, Names, OrPage}
+use Rattle.bpaf_program.specs.OfCommands.{ParseFailure, Piece, plain_argument, plain_info, String}
+use Rattle.bpaf_program.specs.OfCommands.{SpellsUnsigned, truth, Unrestricted}
 use Rattle.example_notes.specs.declared.options.Notes.{Notes}
 use Rattle.example_notes.specs.{declared.options.Task.Task, declared.options.Tag.Tag}
-use Rattle.bpaf_doc.specs.{declared.doc.Piece.Piece, Names.Names}
-use Rattle.std.specs.Result.{IfErr}
-use Rattle.bpaf.specs.{Info.plain_info, Asked.IfShown}
-use Rattle.bpaf_text.specs.{Meaning.SpellsUnsigned, Named.KeyWithValue}
-use Rattle.bpaf_words.specs.Arguments.{Given}
-use Rattle.bpaf_line.specs.declared.failure.ParseFailure.{ParseFailure}
-use Rattle.bpaf_grammar.specs.declared.position.Position.TheVariants.{Unrestricted}
-use Rattle.bpaf_grammar.specs.Grammar.{FieldsGrammar, argument, Grammar, choice, alone, both, word}
 use Rattle.example_notes.specs.declared.options.Tag.TheVariants as tag
 use Rattle.example_notes.specs.declared.options.Task.TheVariants as task
 

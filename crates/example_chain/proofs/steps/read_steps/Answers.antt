@@ -1,6 +1,4 @@
 use Rattle.std.proofs.Common.{◌≡◌, ap₂, map, refl, rules, string_bytes}
-use Rattle.bpaf_words.specs.Arguments.{given_of}
-use Rattle.bpaf.specs.{Info.plain_info, Run.known_names}
 use Rattle.bpaf_program.proofs.OfCommands as of
 use Rattle.example_chain.specs.Running as chain
 use Rattle.example_chain.proofs.steps.read_steps.Goals as goal
@@ -17,12 +15,12 @@ returns c =
     (of.map_known _ chain.turn_parser (rw (← turn) at c.in_ok-turn.ensures) (λ x step e. search rules)))
     (of.map_known _ chain.repeat_parser (rw (← repeat) at c.in_ok-repeat.ensures)
     (λ n step e. search rules))) (search rules) in
-    let info : options.info ≡ plain_info = search rules in
-    let given : given_of c.set_name.result ≡ chain.program_given (map string_bytes c.args.words.now)
-    = search rules in
+    let info : options.info ≡ of.plain_info = search rules in
+    let given : of.given_of c.set_name.result
+    ≡ chain.program_given (map string_bytes c.args.words.now) = search rules in
     record {
-      dealt = of.also_dealt known.also _ c.run_once.ensures.dealt (ap₂ known_names info known.shown)
-          given;
+      dealt = of.also_dealt known.also _ c.run_once.ensures.dealt
+          (ap₂ of.known_names info known.shown) given;
       asked = of.asks_for_page chain.steps_parser _ c.run_once.ensures.outcome known
-          (λ info. info ≡ plain_info) info (rw info refl) given;
+          (λ info. info ≡ of.plain_info) info (rw info refl) given;
     }

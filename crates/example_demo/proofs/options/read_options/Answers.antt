@@ -1,7 +1,5 @@
 use Rattle.std.proofs.Common.{codes, rules}
 use Rattle.bpaf_program.proofs.OfCommands as of
-use Rattle.bpaf_program.specs.Fields.{helped_argument}
-use Rattle.bpaf_program.specs.KnownParser.{help_of}
 use Rattle.example_demo.specs.Running as demo
 use Rattle.example_demo.proofs.options.read_options.Goals as goal
 
@@ -9,11 +7,11 @@ pub run_program-requires-clause-can : goal.run_program-requires-clause-can
 run_program-requires-clause-can c = (
   search rules,
   of.con_known demo.options_of demo.fields (of.both_known _ _
-      (of.switch_known demo.verbose_names (help_of (codes "Print more")) (search rules) (search rules)
-      (search rules)) (of.both_known _ _ (of.argument_known (of.SpellsUnsigned 64)
-      (helped_argument demo.number_key (codes "A number")) (search rules)) (of.last_known _
+      (of.switch_known demo.verbose_names (of.help_of (codes "Print more")) (search rules)
+      (search rules) (search rules)) (of.both_known _ _ (of.argument_known (of.SpellsUnsigned 64)
+      (of.helped_argument demo.number_key (codes "A number")) (search rules)) (of.last_known _
       (of.many_known (of.word_known of.MeansText of.Unrestricted (codes "FILE")
-      (help_of (codes "Files to read")) (search rules) (search rules) (search rules))
+      (of.help_of (codes "Files to read")) (search rules) (search rules) (search rules))
       (search rules))))) (λ x v e. search rules),
 )
 

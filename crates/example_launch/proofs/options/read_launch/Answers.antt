@@ -1,7 +1,5 @@
 use Rattle.std.proofs.Common.{◌≡◌, ap, codes, rules}
-use Rattle.bpaf_grammar.specs.declared.position.Position.TheVariants.{Strict, NonStrict}
 use Rattle.bpaf_program.proofs.OfCommands as of
-use Rattle.bpaf_program.specs.{Fields.IsWord, Fields.helped_switch, KnownParser.help_of}
 use Rattle.example_launch.specs.Running as launch
 use Rattle.example_launch.proofs.Dealing.{launch_asked}
 use Rattle.example_launch.proofs.options.read_launch.Goals as goal
@@ -10,25 +8,26 @@ pub run_program-requires-clause-can : goal.run_program-requires-clause-can
 run_program-requires-clause-can c =
     let parts = c.into_options.result.inner.fields in
     let positionals = parts.rest.rest in
-    let verbose : parts.first ≡ helped_switch launch.verbose_names (codes "Print more") =
+    let verbose : parts.first ≡ of.helped_switch launch.verbose_names (codes "Print more") =
     search rules in
-    let dry_run : parts.rest.first ≡ helped_switch launch.dry_run_names (codes "Start nothing") =
+    let dry_run : parts.rest.first ≡ of.helped_switch launch.dry_run_names (codes "Start nothing") =
     search rules in
-    let name : IsWord NonStrict (codes "NAME") (codes "Program to start") positionals.first =
+    let name : of.IsWord of.NonStrict (codes "NAME") (codes "Program to start") positionals.first =
     search rules in
-    let passed : IsWord Strict (codes "WORD") (codes "Words to pass on")
+    let passed : of.IsWord of.Strict (codes "WORD") (codes "Words to pass on")
     positionals.rest.last.inner = search rules in (
       search rules,
       of.con_known launch.launch_of launch.fields (of.both_known _ _
-          (of.switch_known launch.verbose_names (help_of (codes "Print more"))
+          (of.switch_known launch.verbose_names (of.help_of (codes "Print more"))
           (ap (λ s. s.named) verbose) (ap (λ s. s.present) verbose) (ap (λ s. s.absent) verbose))
-          (of.both_known _ _ (of.switch_known launch.dry_run_names (help_of (codes "Start nothing"))
+          (of.both_known _ _
+          (of.switch_known launch.dry_run_names (of.help_of (codes "Start nothing"))
           (ap (λ s. s.named) dry_run) (ap (λ s. s.present) dry_run) (ap (λ s. s.absent) dry_run))
-          (of.both_known _ _ (of.word_known of.MeansText NonStrict (codes "NAME")
-          (help_of (codes "Program to start")) name.position_is name.metavar_is name.help_is)
-          (of.last_known _ (of.many_known (of.word_known of.MeansText Strict (codes "WORD")
-          (help_of (codes "Words to pass on")) passed.position_is passed.metavar_is passed.help_is)
-          (search rules)))))) (λ x v e. search rules),
+          (of.both_known _ _ (of.word_known of.MeansText of.NonStrict (codes "NAME")
+          (of.help_of (codes "Program to start")) name.position_is name.metavar_is name.help_is)
+          (of.last_known _ (of.many_known (of.word_known of.MeansText of.Strict (codes "WORD")
+          (of.help_of (codes "Words to pass on")) passed.position_is passed.metavar_is
+          passed.help_is) (search rules)))))) (λ x v e. search rules),
     )
 
 pub returns : goal.returns
