@@ -1,3 +1,3 @@
-pub use Rattle.bpaf_parts.proofs.Branching
+pub mod Branching
 pub mod Running
 pub mod Commanding

@@ -1,14 +1,32 @@
 //! A choice of two parsers.
-ghost use Rattle.bpaf_grammar.specs.Grammar.{choice};
-ghost use Rattle.bpaf_grammar.specs.Grammar.{outcome_of};
-ghost use Rattle.bpaf_laws.specs.Choice.{ChoiceOutcome};
-ghost use Rattle.bpaf_parts.specs.Branches.{HasAnswered, IsStart, start_of};
+ghost use Rattle.bpaf_grammar.specs.Grammar.{choice, outcome_of};
+ghost use Rattle.bpaf_laws.specs.Choice.{ChoiceOutcome, is_memory_answer};
+ghost use Rattle.std.specs.Prelude.{◌≡◌};
+ghost use Rattle.bpaf_core.specs.Branches.{HasAnswered, IsStart, start_of};
 
+use crate::choice::branch::Branch;
+use crate::choice::table::this_or_that;
 use crate::parser::Parser;
 use bpaf_doc::Meta;
 use bpaf_line::{Error, State};
-use bpaf_parts::{Branch, Start, is_want, or_meta, this_or_that};
 use std::alloc::{AllocError, Global};
+
+mod branch;
+mod table;
+
+pub use branch::Start;
+pub(crate) use branch::resume;
+pub use table::or_meta;
+
+/// Whether an answer is want of memory. It takes none.
+fn is_memory_answer<T>(answer: &Result<T, Error>) -> bool
+    ensures { result ≡ is_memory_answer answer.now }
+{
+    match answer {
+        Ok(_) => false,
+        Err(error) => error.is_memory(),
+    }
+}
 
 /// The answer of a choice of which the first branch answered this, from a start that lies behind
 /// the state, and whose second one is a parser; [`this_or_that`] decides whose answer counts. Want
@@ -26,7 +44,7 @@ pub fn or_parser<T: Drop, P: Parser<T>>(
     ensures { ChoiceOutcome (HasAnswered (start_of start state.old) first state.old)
         (outcome_of (P.grammar parser.now)) (start_of start state.old) result state.new }
 {
-    if is_want(&first) {
+    if is_memory_answer(&first) {
         state.undo(start.mark);
         return first;
     }
@@ -38,7 +56,7 @@ pub fn or_parser<T: Drop, P: Parser<T>>(
         }
     };
     let second = parser.eval(state);
-    if is_want(&second) {
+    if is_memory_answer(&second) {
         drop(first);
         state.undo(start.mark);
         return second;

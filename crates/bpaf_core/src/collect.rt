@@ -1,14 +1,13 @@
 //! All values of a parser, in a collection of the caller's choice.
-ghost use Rattle.bpaf_grammar.specs.Grammar.{repeat, collect};
-ghost use Rattle.bpaf_grammar.specs.Grammar.{outcome_of};
+ghost use Rattle.bpaf_grammar.specs.Grammar.{repeat, collect, outcome_of};
 ghost use Rattle.std.specs.Prelude.{◌≡◌, true};
 ghost use Rattle.bpaf_laws.specs.Combinators.{CollectOutcome};
 
 use crate::parser::Parser;
 use crate::repeat::values_until_stop;
+use crate::shown::many_meta;
 use bpaf_doc::Meta;
 use bpaf_line::{Error, State};
-use bpaf_parts::many_meta;
 use bpaf_text::FromList;
 use std::alloc::{AllocError, Global};
 use std::marker::PhantomData;
@@ -20,7 +19,8 @@ fn collect_values<T: Drop, C: FromList<T>, P: Parser<T>>(
     catches: bool,
 ) -> Result<C, Error>
     requires { P.can_eval parser.now }
-    ensures { CollectOutcome (outcome_of (P.grammar parser.now)) catches C.fills state.old result state.new }
+    ensures { CollectOutcome (outcome_of (P.grammar parser.now)) catches C.fills state.old result
+        state.new }
 {
     let values = values_until_stop(parser, state, catches)?;
     Ok(C::from_list(values)?)

@@ -1,15 +1,14 @@
 //! How many values a parser gives, and the last of them.
-ghost use Rattle.bpaf_grammar.specs.Grammar.{repeat, count, last};
-ghost use Rattle.bpaf_grammar.specs.Grammar.{outcome_of};
-ghost use Rattle.bpaf_laws.specs.Combinators.{CountOutcome, LastOutcome};
-ghost use Rattle.bpaf_laws.specs.Combinators.{EndsIn, UntilFault, UntilRest};
+ghost use Rattle.bpaf_laws.specs.Combinators.{CountOutcome, LastOutcome, EndsIn, UntilFault};
+ghost use Rattle.bpaf_grammar.specs.Grammar.{repeat, count, last, outcome_of};
+ghost use Rattle.bpaf_laws.specs.Combinators.{UntilRest};
 ghost use Rattle.std.specs.Prelude.{◌≡◌, IfErr, IfOk, List, length};
 
 use crate::optional::parse_option;
 use crate::parser::Parser;
+use crate::shown::{many_meta, some_meta};
 use bpaf_doc::Meta;
 use bpaf_line::{Error, State};
-use bpaf_parts::{many_meta, some_meta};
 use std::alloc::{AllocError, Global};
 use std::marker::PhantomData;
 
@@ -26,7 +25,8 @@ fn count_values<T: Drop, P: Parser<T>>(parser: &P, state: &mut State) -> Result<
     ensures ok { IfOk result (λ counted. (values : List T)
         × UntilRest (outcome_of (P.grammar parser.now)) state.old values state.new
         × (counted.count ≡ length values) × EndsIn values counted.last) }
-    ensures err { IfErr result (λ e. UntilFault (outcome_of (P.grammar parser.now)) state.old e state.new) }
+    ensures err { IfErr result (λ e. UntilFault (outcome_of (P.grammar parser.now)) state.old e
+        state.new) }
 {
     let present_at_start = state.len();
     let mut left = present_at_start;

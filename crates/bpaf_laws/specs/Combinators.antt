@@ -157,7 +157,8 @@ ShowsDefault text shown = (doc : List Piece) × IsDefault text doc × (shown ≡
 abbrev pub IsFormatted : {T : Type 0} → (T → Result (String Global) AllocError → Type 0) → T
     → List Piece → Type 0
 IsFormatted writes v doc =
-    (text : String Global) × writes v (Ok text) × (doc ≡ text_pieces (default_text (string_bytes text)))
+    (text : String Global) × writes v (Ok text)
+    × (doc ≡ text_pieces (default_text (string_bytes text)))
 
 -- such a document is shown
 abbrev pub ShowsFormatted : {T : Type 0} → (T → Result (String Global) AllocError → Type 0) → T
@@ -314,7 +315,7 @@ CollectIsBounded inner catches fills s (Err e) t = ⊤
 abbrev pub ManyDescribes : (Shape → Type 0) → Shape → Type 0
 ManyDescribes inner shape = (inside : Shape) × inner inside × (shape ≡ Many (Optional inside))
 
--- so is what may stand more than once, and must stand there
+-- what may stand more than once, and must stand there, is shown so
 abbrev pub SomeDescribes : (Shape → Type 0) → Shape → Type 0
 SomeDescribes inner shape = (inside : Shape) × inner inside × (shape ≡ Many (Required inside))
 

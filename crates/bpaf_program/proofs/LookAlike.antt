@@ -1,5 +1,6 @@
 -- Parsers of programs all of whose values on the same words look alike.
-use Rattle.std.proofs.Common.{◌≡◌, ◌∙◌, All, Bool, IsUtf8, List, Option, ap, arith, map, string_bytes}
+use Rattle.std.proofs.Common.{◌≡◌, ◌∙◌, All, Bool, IsUtf8, List, Option, ap, arith, map}
+use Rattle.std.proofs.Common.{string_bytes}
 use Rattle.std.proofs.Common.{sym, ℕ}
 use Rattle.bpaf_doc.specs.{Names.Names, declared.doc.Piece.Piece}
 use Rattle.bpaf_words.specs.{Arguments.Given, Line.Known}
@@ -17,7 +18,8 @@ use Rattle.bpaf_record.proofs.LookAlike.{fallback_seen, flag_seen, product_seen,
 use Rattle.bpaf_record.proofs.LookAlike.{view_seen, word_seen}
 use Rattle.bpaf_record.proofs.Running.{same_context}
 use Rattle.bpaf_program.specs.KnownParser.{IsValueBy, MeansText, String, known_con, known_default}
-use Rattle.bpaf_program.specs.KnownParser.{known_many, known_map, known_switch, makes, program_names}
+use Rattle.bpaf_program.specs.KnownParser.{known_many, known_map, known_switch, makes}
+use Rattle.bpaf_program.specs.KnownParser.{program_names}
 
 -- a switch
 pub switch_seen : {names : Names} {help : Option (List Piece)}

@@ -1,21 +1,18 @@
 //! What a command answers: its word is taken, and what runs inside it ends before or at the end of
 //! its scope.
-ghost use Rattle.bpaf_grammar.specs.Grammar.{command};
-ghost use Rattle.bpaf_grammar.specs.Grammar.{outcome_of, describes_of};
-ghost use Rattle.std.specs.{Prelude.◌≡◌, Prelude.◌<◌, Prelude.IfOk};
+ghost use Rattle.bpaf_grammar.specs.Grammar.{command, outcome_of, describes_of};
+ghost use Rattle.bpaf_grammar.specs.Command.{Enters, RunsInside, IsMissingPart};
+ghost use Rattle.bpaf_grammar.specs.{Failures.end_message, Ending.EndsRun};
+ghost use Rattle.std.specs.Prelude.{◌≡◌, ◌<◌, IfOk};
 ghost use Rattle.bpaf_doc.specs.Shape.{part_of};
-ghost use Rattle.bpaf_laws.specs.{Command.CommandPart};
+ghost use Rattle.bpaf_laws.specs.Command.{CommandPart};
 ghost use Rattle.bpaf_core.specs.Help.{shown_help};
-ghost use Rattle.bpaf_grammar.specs.Command.{Enters, RunsInside};
-ghost use Rattle.bpaf_grammar.specs.Command.{IsMissingPart};
-ghost use Rattle.bpaf_grammar.specs.{Ending.EndsRun};
 
 use crate::commands::ParseCommand;
 use crate::parser::Parser;
 use crate::run::Run;
 use bpaf_doc::{Doc, Item, Meta, Text};
-use bpaf_line::{Error, ParseFailure, State};
-use bpaf_parts::end_message;
+use bpaf_line::{Error, Message, ParseFailure, State};
 use std::alloc::{AllocError, Global};
 use std::marker::PhantomData;
 
@@ -94,6 +91,17 @@ impl<T: Drop, P: Parser<T>> ParseCommand<T, P> {
         } else {
             run.run_from(state)
         }
+    }
+}
+
+/// The end of an inner run, as a refusal of its command: want of memory stays that. It takes no
+/// memory.
+fn end_message(failure: ParseFailure) -> Message
+    ensures { result ≡ end_message failure }
+{
+    match failure {
+        ParseFailure::Memory => Message::Memory,
+        failure => Message::ParseFailure(failure),
     }
 }
 

@@ -9,7 +9,8 @@ pub run_program-requires-clause-can : goal.run_program-requires-clause-can
 run_program-requires-clause-can c = (
   search rules,
   of.con_known demo.options_of demo.fields (of.both_known _ _
-      (of.switch_known demo.verbose_names (help_of (codes "Print more")) (search rules) (search rules)
+      (of.switch_known demo.verbose_names (help_of (codes "Print more")) (search rules)
+      (search rules)
       (search rules)) (of.both_known _ _ (of.argument_known (of.SpellsUnsigned 64)
       (helped_argument demo.number_key (codes "A number")) (search rules)) (of.last_known _
       (of.many_known (of.word_known of.MeansText of.Unrestricted (codes "FILE")

@@ -3,7 +3,8 @@ use Rattle.std.specs.Prelude.{◌≡◌, length, Result}
 use Rattle.bpaf_line.specs.Marks.{Fits, CanRedo, undone, redone}
 use Rattle.bpaf_line.specs.{Situation.Situation, Situation.open_count, declared.error.Error.Error}
 use Rattle.bpaf_laws.specs.Reading.{Outcome}
-use Rattle.bpaf_parts.specs.{declared.branch.Start.Start, declared.branch.Branch.Branch}
+use Rattle.bpaf_core.specs.{declared.choice.branch.Start.Start}
+use Rattle.bpaf_core.specs.{declared.choice.branch.Branch.Branch}
 
 -- a parse can go back to the start, in which so many items are present
 pub record IsStart (start : Start) (t : Situation) : Type 0 where
@@ -21,7 +22,7 @@ pub record LedTo (branch : Branch) (s t : Situation) : Type 0 where
 abbrev pub start_of : Start → Situation → Situation
 start_of start t = undone start.mark t
 
--- and where the branch leads to from there
+-- where the branch leads to from the start that lies behind a situation
 abbrev pub end_of : Start → Branch → Situation → Situation
 end_of start branch t = redone branch.steps (start_of start t)
 

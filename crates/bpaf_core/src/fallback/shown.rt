@@ -16,7 +16,7 @@ fn shown_default(alloc: Global, value: &str) -> Result<Doc, AllocError>
 }
 
 /// The text of a default, as Display prints it; refused only for want of memory.
-pub fn displayed<T: Display>(alloc: Global, value: &T) -> Result<Doc, AllocError>
+pub(crate) fn displayed<T: Display>(alloc: Global, value: &T) -> Result<Doc, AllocError>
     ensures { IfOk result (IsDefault (T.output value.now)) }
 {
     let text = value.to_string(alloc)?;
@@ -24,7 +24,7 @@ pub fn displayed<T: Display>(alloc: Global, value: &T) -> Result<Doc, AllocError
 }
 
 /// The text of a default, as Debug prints it; refused only for want of memory.
-pub fn debugged<T: Debug>(alloc: Global, value: &T) -> Result<Doc, AllocError>
+pub(crate) fn debugged<T: Debug>(alloc: Global, value: &T) -> Result<Doc, AllocError>
     ensures { IfOk result (IsDefault (T.debug_output value.now)) }
 {
     let text = format!(in alloc; "{value:?}")?;
@@ -32,7 +32,7 @@ pub fn debugged<T: Debug>(alloc: Global, value: &T) -> Result<Doc, AllocError>
 }
 
 /// The text of a default, as a closure writes it; refused only for want of memory.
-pub fn formatted<T, F: Fn(&T) -> Result<String, AllocError>>(
+pub(crate) fn formatted<T, F: Fn(&T) -> Result<String, AllocError>>(
     alloc: Global,
     format: &F,
     value: &T,

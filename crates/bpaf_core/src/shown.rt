@@ -7,14 +7,14 @@ use bpaf_doc::{Doc, Meta};
 use std::alloc::{AllocError, Global};
 
 /// What may be left out; refused only for want of memory.
-pub fn optional_meta(alloc: Global, meta: Meta) -> Result<Meta, AllocError>
+pub(crate) fn optional_meta(alloc: Global, meta: Meta) -> Result<Meta, AllocError>
     ensures { IfOk result (λ all. shape_of all ≡ Optional (shape_of meta)) }
 {
     Ok(Meta::Optional(Box::new(alloc, meta)?))
 }
 
 /// What may stand any number of times; refused only for want of memory.
-pub fn many_meta(alloc: Global, meta: Meta) -> Result<Meta, AllocError>
+pub(crate) fn many_meta(alloc: Global, meta: Meta) -> Result<Meta, AllocError>
     ensures { IfOk result (λ all. shape_of all ≡ Many (Optional (shape_of meta))) }
 {
     let optional = Meta::Optional(Box::new(alloc, meta)?);
@@ -22,7 +22,7 @@ pub fn many_meta(alloc: Global, meta: Meta) -> Result<Meta, AllocError>
 }
 
 /// What has to stand once or more; refused only for want of memory.
-pub fn some_meta(alloc: Global, meta: Meta) -> Result<Meta, AllocError>
+pub(crate) fn some_meta(alloc: Global, meta: Meta) -> Result<Meta, AllocError>
     ensures { IfOk result (λ all. shape_of all ≡ Many (Required (shape_of meta))) }
 {
     let required = Meta::Required(Box::new(alloc, meta)?);
@@ -31,7 +31,11 @@ pub fn some_meta(alloc: Global, meta: Meta) -> Result<Meta, AllocError>
 
 /// What may be left out, with its default behind it, where one is shown; refused only for want of
 /// memory.
-pub fn default_meta(alloc: Global, meta: Meta, shown: &Option<Doc>) -> Result<Meta, AllocError>
+pub(crate) fn default_meta(
+    alloc: Global,
+    meta: Meta,
+    shown: &Option<Doc>,
+) -> Result<Meta, AllocError>
     ensures { IfOk result (λ all.
         DefaultDescribes (λ shape. shape ≡ shape_of meta) shown.now (shape_of all)) }
 {

@@ -1,2 +1,0 @@
-pub mod Failures
-pub mod Branches
