@@ -15,7 +15,7 @@ use Rattle.bpaf_core.specs.Command.{AdjacentOutcome, Attempt, Attempts, EitherCo
 use Rattle.bpaf_core.specs.Command.{failed, first_fails, no_path, nothing_left, second_fails}
 use Rattle.bpaf_core.specs.Command.{unnamed, CommandOutcome, IsMissingPart, ended}
 use Rattle.bpaf_core.specs.Command.{missing, no_memory}
-use Rattle.bpaf_core.specs.{Failures.end_message, Ending.Ending, Ending.EndsRun, Info.RunInfo}
+use Rattle.bpaf_core.specs.{Failure.end_message, Ending.Ending, Ending.EndsRun, Info.RunInfo}
 use Rattle.bpaf.specs.Asked.{BehindWord, CameTo, HandsOn, RunShows, Showing, inner_answer}
 use Rattle.bpaf.proofs.Asked.{IsAlsoShown, came_also, came_from, run_shows}
 use Rattle.bpaf_line.specs.declared.failure.ParseFailure.TheVariants as failure

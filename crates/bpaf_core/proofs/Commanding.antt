@@ -15,7 +15,8 @@ use Rattle.bpaf_laws.specs.{Reading.Outcome, Reading.Readings, Command.Called, C
 use Rattle.bpaf_laws.specs.{Adjacent.IsFirstLeft, Laws.Lawful}
 use Rattle.bpaf_grammar.specs.{Command.second_fails, Command.retry_memory, CommandLaws.runs_keeps}
 use Rattle.bpaf_grammar.specs.{Ending.Ending, Ending.LawfulEnding, AdjacentLaws.attempts_counted}
-use Rattle.bpaf_grammar.specs.{Failures.end_message, Run.Runs}
+use Rattle.bpaf_line.specs.Failure.{end_message}
+use Rattle.bpaf_grammar.specs.Run.{Runs}
 use Rattle.bpaf_line.proofs.Marks.{keeps_marks_refl, keeps_marks_scope, keeps_marks_trans}
 use Rattle.bpaf_line.specs.declared.failure.ParseFailure.TheVariants as failure
 

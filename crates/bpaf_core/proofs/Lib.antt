@@ -1,3 +1,2 @@
-pub mod Branching
 pub mod Running
 pub mod Commanding

@@ -1,7 +1,7 @@
 pub use Rattle.bpaf_messages.specs.Leftover
 pub use Rattle.bpaf_messages.specs.Rendering
 pub use Rattle.bpaf_keys.specs.Info
-pub use Rattle.bpaf_grammar.specs.Failures
+pub use Rattle.bpaf_line.specs.Failure
 pub use Rattle.bpaf_keys.specs.declared.info.ExtraParams
 pub use Rattle.bpaf_grammar.specs.Grammar
 pub use Rattle.bpaf_grammar.specs.Laws
@@ -12,4 +12,3 @@ pub use Rattle.bpaf_grammar.specs.Refusals
 pub use Rattle.bpaf_grammar.specs.Command
 pub mod Extra
 pub mod Help
-pub mod Branches

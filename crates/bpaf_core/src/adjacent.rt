@@ -1,16 +1,14 @@
 //! Runs over the items behind a place without a gap: the attempts of an adjacent command.
 ghost use Rattle.bpaf_grammar.specs.Command.{AdjacentRuns, Attempt, Attempts, Retry};
 ghost use Rattle.bpaf_grammar.specs.{Grammar.outcome_of, Grammar.describes_of, Ending.EndsRun};
-ghost use Rattle.bpaf_grammar.specs.Failures.{GivesBack, end_message};
 ghost use Rattle.std.specs.Prelude.{◌≡◌, ◌<◌, ◌≤◌, length, MatchOption};
-ghost use Rattle.bpaf_line.specs.Marks.{CanRedo, Fits, KeepsMarks, redone, undone};
-ghost use Rattle.bpaf_line.specs.Messages.{is_memory};
+ghost use Rattle.bpaf_line.specs.Marks.{Fits, KeepsMarks, undone};
 ghost use Rattle.bpaf_laws.specs.Adjacent.{AllTaken, IsFirstLeft};
 
-use crate::choice::resume;
 use crate::parser::Parser;
 use crate::run::Run;
-use bpaf_line::{Mark, ParseFailure, State, Steps};
+use bpaf_choice::first_failure;
+use bpaf_line::{Mark, ParseFailure, State};
 
 impl<T: Drop, P: Parser<T>> Run<'_, T, P> {
     /// A run over the places from one up to another.
@@ -47,7 +45,7 @@ impl<T: Drop, P: Parser<T>> Run<'_, T, P> {
             (undone mark state.old) from end failure
             state.old result state.new }
     {
-        if is_memory_failure(&failure) {
+        if failure.is_memory() {
             state.undo(mark);
             return Err(failure);
         }
@@ -100,13 +98,6 @@ impl<T: Drop, P: Parser<T>> Run<'_, T, P> {
     }
 }
 
-/// Whether an inner run ended for want of memory. It takes none.
-fn is_memory_failure(failure: &ParseFailure) -> bool
-    ensures { result ≡ is_memory (end_message failure.now) }
-{
-    matches!(failure, ParseFailure::Memory)
-}
-
 /// The first of the places from one up to another that is present, in scope or not. It takes no
 /// memory.
 fn first_left(state: &State, from: usize, end: usize) -> Option<usize>
@@ -118,29 +109,4 @@ fn first_left(state: &State, from: usize, end: usize) -> Option<usize>
         }
     }
     None
-}
-
-/// The failure of a first attempt, where its steps led, since a second one failed too; want of
-/// memory at the mark, where the second one ended so, or memory for doing the steps again is
-/// refused.
-fn first_failure(
-    state: &mut State,
-    mark: Mark,
-    steps: Steps,
-    first: ParseFailure,
-    second: ParseFailure,
-) -> ParseFailure
-    requires fits { Fits mark state.old }
-    requires steps { CanRedo steps (undone mark state.old) }
-    ensures { GivesBack first second (undone mark state.old)
-        (redone steps (undone mark state.old)) result state.new }
-{
-    if is_memory_failure(&second) {
-        state.undo(mark);
-        return second;
-    }
-    match resume(state, mark, steps) {
-        Ok(()) => first,
-        Err(refused) => ParseFailure::from(refused),
-    }
 }

@@ -1,39 +1,12 @@
 //! Arguments.
 ghost use Rattle.bpaf_grammar.specs.Grammar.{argument};
-ghost use Rattle.bpaf_laws.specs.Reading.{ReadsValue, TellsReading};
 
 use crate::parser::Parser;
-use bpaf_doc::{Meta, Text};
-use bpaf_keys::take_argument;
-use bpaf_line::{Error, Message, State};
-use bpaf_text::{FromText, ParseArgument, TextFault};
+use bpaf_doc::Meta;
+use bpaf_keys::{read_text, take_argument};
+use bpaf_line::{Error, State};
+use bpaf_text::{FromText, ParseArgument};
 use std::alloc::{AllocError, Global};
-
-/// What the reading of a taken text is for a parser: the value; or ParseFailed, which names the
-/// current place, where the text means none; or want of memory.
-pub fn value_or_refusal<T>(state: &State, read: Result<T, TextFault>) -> Result<T, Error>
-    ensures { TellsReading read state.now.current result }
-{
-    match read {
-        Ok(value) => Ok(value),
-        Err(TextFault::Memory) => Err(Error(Message::Memory)),
-        Err(TextFault::Fault(fault)) => Err(Error(Message::ParseFailed(
-            state.current(),
-            Text::from(fault),
-        ))),
-    }
-}
-
-/// The value that a taken text means.
-///
-/// Refused with ParseFailed, which names the current place, where the text means none; or for want
-/// of memory.
-#[tactic(auto, using(bpaf_laws::proofs::Keeping::reading_told))]
-pub fn read_text<T: FromText>(state: &State, text: &str) -> Result<T, Error>
-    ensures { ReadsValue T.means text.now state.now.current result }
-{
-    value_or_refusal(state, T::from_text(state.alloc(), text))
-}
 
 /// What the text behind the first key with one of the names means, or, where there is no such key,
 /// that of the first of its names in the environment that is set (bpaf's `ParseArgument`, in

@@ -1,32 +1,13 @@
 //! A choice of two parsers.
 ghost use Rattle.bpaf_grammar.specs.Grammar.{choice, outcome_of};
-ghost use Rattle.bpaf_laws.specs.Choice.{ChoiceOutcome, is_memory_answer};
-ghost use Rattle.std.specs.Prelude.{◌≡◌};
-ghost use Rattle.bpaf_core.specs.Branches.{HasAnswered, IsStart, start_of};
+ghost use Rattle.bpaf_laws.specs.Choice.{ChoiceOutcome};
+ghost use Rattle.bpaf_choice.specs.Branches.{HasAnswered, IsStart, start_of};
 
-use crate::choice::branch::Branch;
-use crate::choice::table::this_or_that;
 use crate::parser::Parser;
+use bpaf_choice::{Branch, Start, is_memory_answer, or_meta, this_or_that};
 use bpaf_doc::Meta;
 use bpaf_line::{Error, State};
 use std::alloc::{AllocError, Global};
-
-mod branch;
-mod table;
-
-pub use branch::Start;
-pub(crate) use branch::resume;
-pub use table::or_meta;
-
-/// Whether an answer is want of memory. It takes none.
-fn is_memory_answer<T>(answer: &Result<T, Error>) -> bool
-    ensures { result ≡ is_memory_answer answer.now }
-{
-    match answer {
-        Ok(_) => false,
-        Err(error) => error.is_memory(),
-    }
-}
 
 /// The answer of a choice of which the first branch answered this, from a start that lies behind
 /// the state, and whose second one is a parser; [`this_or_that`] decides whose answer counts. Want

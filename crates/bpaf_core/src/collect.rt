@@ -5,7 +5,6 @@ ghost use Rattle.bpaf_laws.specs.Combinators.{CollectOutcome};
 
 use crate::parser::Parser;
 use crate::repeat::values_until_stop;
-use crate::shown::many_meta;
 use bpaf_doc::Meta;
 use bpaf_line::{Error, State};
 use bpaf_text::FromList;
@@ -63,6 +62,6 @@ impl<T: Drop, C: FromList<T> + Drop, P: Parser<T>> Parser<C> for ParseCollect<P,
     }
 
     fn meta(&self, alloc: Global) -> Result<Meta, AllocError> {
-        many_meta(alloc, self.inner.meta(alloc)?)
+        self.inner.meta(alloc)?.many(alloc)
     }
 }

@@ -6,7 +6,6 @@ ghost use Rattle.std.specs.Prelude.{◌≡◌, IfErr, IfOk, List, length};
 
 use crate::optional::parse_option;
 use crate::parser::Parser;
-use crate::shown::{many_meta, some_meta};
 use bpaf_doc::Meta;
 use bpaf_line::{Error, State};
 use std::alloc::{AllocError, Global};
@@ -43,14 +42,6 @@ fn count_values<T: Drop, P: Parser<T>>(parser: &P, state: &mut State) -> Result<
     Ok(Counted { count, last })
 }
 
-/// How many of these values there are.
-fn number_of_values<T: Drop, P: Parser<T>>(parser: &P, state: &mut State) -> Result<usize, Error>
-    requires { P.can_eval parser.now }
-    ensures { CountOutcome (outcome_of (P.grammar parser.now)) state.old result state.new }
-{
-    Ok(count_values(parser, state)?.count)
-}
-
 /// The last of these values; without one what the parser answers once more.
 fn last_value<T: Drop, P: Parser<T>>(parser: &P, state: &mut State) -> Result<T, Error>
     requires { P.can_eval parser.now }
@@ -77,11 +68,11 @@ impl<T: Drop, P: Parser<T>> Parser<usize> for ParseCount<P, T> {
     ghost grammar = { λ p. repeat count (P.grammar p.inner) };
 
     fn eval(&self, state: &mut State) -> Result<usize, Error> {
-        number_of_values(&self.inner, state)
+        Ok(count_values(&self.inner, state)?.count)
     }
 
     fn meta(&self, alloc: Global) -> Result<Meta, AllocError> {
-        many_meta(alloc, self.inner.meta(alloc)?)
+        self.inner.meta(alloc)?.many(alloc)
     }
 }
 
@@ -104,6 +95,6 @@ impl<T: Drop, P: Parser<T>> Parser<T> for ParseLast<P> {
     }
 
     fn meta(&self, alloc: Global) -> Result<Meta, AllocError> {
-        some_meta(alloc, self.inner.meta(alloc)?)
+        self.inner.meta(alloc)?.some(alloc)
     }
 }

@@ -1,19 +1,16 @@
 //! A value that stands in where a parser gives none.
-ghost use Rattle.bpaf_laws.specs.Combinators.{AttemptOutcome, GivesAnswer, ShowsAnswer};
+ghost use Rattle.bpaf_doc.specs.Shape.{shape_of};
+ghost use Rattle.bpaf_laws.specs.Combinators.{DefaultDescribes, AttemptOutcome, GivesAnswer, ShowsAnswer};
 ghost use Rattle.bpaf_grammar.specs.Grammar.{fallback, cloned, answered, outcome_of};
 ghost use Rattle.std.specs.{Prelude.◌≡◌, Prelude.IfOk, Prelude.Ok, Fn.FnReturnsAt};
 ghost use Rattle.bpaf_laws.specs.Combinators.{ShowsDefault, ShowsFormatted};
 
-use crate::fallback::shown::{debugged, displayed, formatted};
 use crate::parser::Parser;
-use crate::shown::default_meta;
-use bpaf_doc::{Doc, Meta, Text};
+use bpaf_doc::{Doc, Meta, Text, debugged, displayed, formatted};
 use bpaf_line::{Error, Message, State};
 use std::alloc::{AllocError, Global};
 use std::fmt::{Debug, Display};
 use std::marker::PhantomData;
-
-mod shown;
 
 /// Some of the parser's value; None where the parser answers an error that can be caught. After all
 /// but a value the state is as before.
@@ -33,6 +30,19 @@ fn attempt<T, P: Parser<T>>(parser: &P, state: &mut State) -> Result<Option<T>, 
                 Err(error)
             }
         }
+    }
+}
+
+/// What may be left out, with its default behind it, where one is shown; refused only for want of
+/// memory.
+fn default_meta(alloc: Global, meta: Meta, shown: &Option<Doc>) -> Result<Meta, AllocError>
+    ensures { IfOk result (λ all.
+        DefaultDescribes (λ shape. shape ≡ shape_of meta) shown.now (shape_of all)) }
+{
+    let optional = meta.optional(alloc)?;
+    match shown {
+        Some(shown) => Ok(Meta::Suffix(Box::new(alloc, optional)?, shown.copy()?)),
+        None => Ok(optional),
     }
 }
 

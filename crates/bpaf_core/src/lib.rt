@@ -19,7 +19,7 @@
 //!   but the first takes an item, so there are no more values than items present at the start and
 //!   one.
 //! - [`ParseOrElse`] is one of two parsers, both evaluated from the same state: the table of
-//!   `this_or_that` (src/choice/table.rt) decides whose answer counts. [`or_parser`], [`Start`] and
+//!   [`bpaf_choice::this_or_that`] decides whose answer counts. [`or_parser`], [`Start`] and
 //!   [`or_meta`] are for the crates of this repository, not for callers. The branch that took the
 //!   leftmost place taken by only one of them wins.
 //! - [`ParseHide`] names no missing item in its refusals; [`ParseUsage`], [`ParseGroupHelp`] and
@@ -54,15 +54,14 @@ mod options;
 mod parser;
 mod repeat;
 mod run;
-mod shown;
 mod transform;
 mod usage;
 
-pub use argument::{read_text, value_or_refusal};
-pub use bpaf_keys::{CommandNames, ExtraParams, Info};
+pub use bpaf_choice::{Start, or_meta};
+pub use bpaf_keys::{CommandNames, ExtraParams, Info, read_text, value_or_refusal};
 pub use bpaf_messages::{earlier_key, leftover, render};
 pub use bpaf_pages::{HelpTexts, render_help, usage_of};
-pub use choice::{ParseOrElse, Start, or_meta, or_parser};
+pub use choice::{ParseOrElse, or_parser};
 pub use collect::ParseCollect;
 pub use commands::{ParseCommand, command};
 pub use count::{ParseCount, ParseLast};

@@ -4,7 +4,6 @@ ghost use Rattle.std.specs.Prelude.{◌≡◌, true};
 ghost use Rattle.bpaf_laws.specs.Combinators.{TurnOutcome, stops_step};
 
 use crate::parser::Parser;
-use crate::shown::optional_meta;
 use bpaf_doc::Meta;
 use bpaf_line::{Error, Message, State};
 use std::alloc::{AllocError, Global};
@@ -96,6 +95,6 @@ impl<T: Drop, P: Parser<T>> Parser<Option<T>> for ParseOptional<P> {
     }
 
     fn meta(&self, alloc: Global) -> Result<Meta, AllocError> {
-        optional_meta(alloc, self.inner.meta(alloc)?)
+        self.inner.meta(alloc)?.optional(alloc)
     }
 }

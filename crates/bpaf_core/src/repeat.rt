@@ -6,7 +6,6 @@ ghost use Rattle.bpaf_laws.specs.Combinators.{ManyOutcome, SomeOutcome};
 
 use crate::optional::parse_option;
 use crate::parser::Parser;
-use crate::shown::{many_meta, some_meta};
 use bpaf_doc::{Meta, Text};
 use bpaf_line::{Error, Message, State};
 use std::alloc::{AllocError, Global};
@@ -79,7 +78,7 @@ impl<T: Drop, P: Parser<T>> Parser<Vec<T>> for ParseMany<P> {
     }
 
     fn meta(&self, alloc: Global) -> Result<Meta, AllocError> {
-        many_meta(alloc, self.inner.meta(alloc)?)
+        self.inner.meta(alloc)?.many(alloc)
     }
 }
 
@@ -137,6 +136,6 @@ impl<'m, T: Drop, P: Parser<T>> Parser<Vec<T>> for ParseSome<'m, P> {
     }
 
     fn meta(&self, alloc: Global) -> Result<Meta, AllocError> {
-        some_meta(alloc, self.inner.meta(alloc)?)
+        self.inner.meta(alloc)?.some(alloc)
     }
 }

@@ -1,7 +1,8 @@
 //! A run of a parser from a state on: its value where nothing is left; else help, the version, or
 //! the message.
 ghost use Rattle.bpaf_grammar.specs.Ending.{EndsRefused, EndsRun, PassesOrTells, ShowsHelp, Tells};
-ghost use Rattle.bpaf_grammar.specs.{Grammar.outcome_of, Grammar.describes_of, Failures.is_shown};
+ghost use Rattle.bpaf_grammar.specs.Grammar.{outcome_of, describes_of};
+ghost use Rattle.bpaf_line.specs.Failure.{is_shown};
 ghost use Rattle.bpaf_grammar.specs.Run.{Runs};
 ghost use Rattle.std.specs.Prelude.{◌≡◌, ◌&&◌, not};
 
@@ -125,12 +126,5 @@ impl<T: Drop, P: Parser<T>> Run<'_, T, P> {
 fn stands_in(usage: bool, message: &Message) -> bool
     ensures { result ≡ (usage && not (is_shown message.now)) }
 {
-    usage && !is_shown(message)
-}
-
-/// Whether it is the answer of an inner run that shows what was asked for.
-fn is_shown(message: &Message) -> bool
-    ensures { result ≡ is_shown message.now }
-{
-    matches!(message, Message::ParseFailure(ParseFailure::Stdout(..)))
+    usage && !message.is_shown()
 }

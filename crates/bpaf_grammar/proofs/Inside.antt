@@ -18,7 +18,7 @@ use Rattle.bpaf_grammar.specs.Refusals.{FailsInside, NamesInside, StartsInside}
 use Rattle.bpaf_grammar.specs.{Ending.EndsRun, Ending.Ending, Ending.LawfulEnding, Run.Runs}
 use Rattle.bpaf_grammar.specs.CommandLaws.{command_lawful, run_empty}
 use Rattle.bpaf_grammar.specs.{AdjacentLaws.either_lawful, Command.IsMissingPart}
-use Rattle.bpaf_grammar.specs.Failures.{end_message}
+use Rattle.bpaf_line.specs.Failure.{end_message}
 use Rattle.bpaf_grammar.proofs.Naming.{run_is_named}
 use Rattle.bpaf_laws.proofs.CommandLaws.{leaves_nothing}
 use Rattle.bpaf_line.specs.declared.failure.ParseFailure.TheVariants as failure

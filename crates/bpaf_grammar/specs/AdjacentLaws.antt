@@ -14,7 +14,8 @@ use Rattle.bpaf_laws.specs.Command.{Called, CommandReads, inside, opening_words}
 use Rattle.bpaf_laws.specs.{Reading.Outcome, Reading.Readings, Adjacent.StretchReads}
 use Rattle.bpaf_grammar.specs.CommandLaws.{run_read, runs_has_name, runs_keeps}
 use Rattle.bpaf_grammar.specs.Command.{EitherCommandOutcome, EitherCommandReads}
-use Rattle.bpaf_grammar.specs.{Ending.Ending, Ending.LawfulEnding, Failures.end_message}
+use Rattle.bpaf_line.specs.Failure.{end_message}
+use Rattle.bpaf_grammar.specs.Ending.{Ending, LawfulEnding}
 use Rattle.bpaf_laws.proofs.Keeping.{keeps_refl, keeps_trans, keeps_unset, names_same}
 use Rattle.bpaf_laws.proofs.AdjacentLaws.{adjacent_read, keeps_stretch}
 use Rattle.bpaf_laws.proofs.CommandLaws.{keeps_inside, keeps_opened}

@@ -11,8 +11,9 @@ use Rattle.bpaf_line.specs.declared.error.Message.{Message}
 use Rattle.bpaf_laws.specs.Adjacent.{AllTaken, IsFirstLeft, StretchReads}
 use Rattle.bpaf_laws.specs.{Reading.Outcome, Reading.Readings, Command.CommandReads}
 use Rattle.bpaf_keys.specs.Info.{RunInfo, short_descr}
-use Rattle.bpaf_grammar.specs.{Failures.end_message, Ending.Ending, Run.Runs}
-pub use Rattle.bpaf_grammar.specs.Failures.{IsTold, GivesBack}
+use Rattle.bpaf_line.specs.Failure.{end_message}
+use Rattle.bpaf_grammar.specs.{Ending.Ending, Run.Runs}
+pub use Rattle.bpaf_choice.specs.Branches.{IsTold, GivesBack}
 use Rattle.bpaf_line.specs.declared.error.Message.TheVariants as message
 use Rattle.bpaf_line.specs.declared.failure.ParseFailure.TheVariants as failure
 

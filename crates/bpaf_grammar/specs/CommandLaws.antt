@@ -13,7 +13,8 @@ use Rattle.bpaf_laws.proofs.CommandLaws.{inside_read, keeps_inside, keeps_opened
 use Rattle.bpaf_laws.proofs.Keeping.{keeps_trans, keeps_unset, names_same}
 use Rattle.std.proofs.Common.{⊎_elim}
 use Rattle.bpaf_grammar.specs.Run.{Runs, leftover, refused, value as run_value}
-use Rattle.bpaf_grammar.specs.{Ending.Ending, Ending.LawfulEnding, Failures.end_message}
+use Rattle.bpaf_line.specs.Failure.{end_message}
+use Rattle.bpaf_grammar.specs.Ending.{Ending, LawfulEnding}
 use Rattle.bpaf_grammar.specs.Command.{value}
 use Rattle.bpaf_line.specs.declared.failure.ParseFailure.TheVariants as failure
 

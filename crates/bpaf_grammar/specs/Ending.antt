@@ -13,10 +13,10 @@ use Rattle.bpaf_keys.specs.declared.info.ExtraParams.{ExtraParams}
 use Rattle.bpaf_laws.specs.Laws.{no_memory, Keeps, version}
 use Rattle.std.proofs.Common.{true≢false}
 use Rattle.bpaf_laws.proofs.Keeping.{keeps_refl, on_line, told_has_name}
-use Rattle.bpaf_grammar.specs.Failures.{end_message}
+use Rattle.bpaf_line.specs.Failure.{end_message}
 use Rattle.bpaf_keys.proofs.Looking.{extra_lawful}
 pub use Rattle.bpaf_messages.specs.Leftover.{TellsNoLine}
-pub use Rattle.bpaf_grammar.specs.Failures.{is_shown}
+pub use Rattle.bpaf_line.specs.Failure.{is_shown}
 use Rattle.bpaf_line.specs.declared.error.Message.TheVariants as message
 use Rattle.bpaf_line.specs.declared.failure.ParseFailure.TheVariants as failure
 use Rattle.bpaf_keys.specs.declared.info.ExtraParams.TheVariants as extra

@@ -2,7 +2,6 @@ pub use Rattle.bpaf_messages.specs.Leftover
 pub use Rattle.bpaf_messages.specs.Rendering
 pub use Rattle.bpaf_keys.specs.Info
 pub use Rattle.bpaf_keys.specs.declared.info.ExtraParams
-pub mod Failures
 pub mod Run
 pub mod Ending
 pub mod Refusals

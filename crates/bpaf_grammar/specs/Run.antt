@@ -7,7 +7,8 @@ use Rattle.bpaf_line.specs.{declared.failure.ParseFailure.ParseFailure, declared
 use Rattle.bpaf_line.specs.{declared.error.Message.Message, Taking.IsContext}
 use Rattle.bpaf_messages.specs.Rendering.{Renders}
 use Rattle.bpaf_doc.specs.Shape.{Shape, in_order}
-use Rattle.bpaf_grammar.specs.{Ending.Ending, Ending.EndsRun, Failures.end_message}
+use Rattle.bpaf_line.specs.Failure.{end_message}
+use Rattle.bpaf_grammar.specs.Ending.{Ending, EndsRun}
 use Rattle.bpaf_keys.specs.Info.{RunInfo, IsNoVersion}
 use Rattle.bpaf_laws.specs.{Leaves.GetsText, Leaves.IsFlagAbsent, Reading.Outcome, Reading.Readings}
 use Rattle.bpaf_text.specs.Named.{KeyWithValue, Named}

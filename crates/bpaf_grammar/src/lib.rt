@@ -20,9 +20,8 @@
 //!   variables, a command leaves nothing in its scope and hands on a failure of its own run alone,
 //!   and an adjacent command or group takes one stretch.
 //! - A run is told by the outcome of what runs: its value or its end (specs/Run.antt,
-//!   specs/Ending.antt), the twelve names of its refusals (specs/Refusals.antt), what the end of an
-//!   inner run is to those around it (specs/Failures.antt), and the attempts of an adjacent command
-//!   (specs/Command.antt).
+//!   specs/Ending.antt), the twelve names of its refusals (specs/Refusals.antt), and the attempts of
+//!   an adjacent command (specs/Command.antt).
 //!
 //! It stands on `bpaf_laws` and on the definitions of keys and messages. Of code it has
 //! [`Position`] alone, which a grammar names.

@@ -9,7 +9,8 @@
 //!   specs/Info.antt).
 //! - [`CommandNames`] are the names of a command; [`CommandNames::open`] takes its word.
 //! - [`is_flag_present`] is the test for flags, and [`is_present`] that for the keys of a run;
-//!   [`take_argument`] takes the text of an argument; [`first_set`] and [`absence`] are for names
+//!   [`take_argument`] takes the text of an argument, and
+//!   [`read_text`] reads its value; [`first_set`] and [`absence`] are for names
 //!   in the environment.
 //!
 //! The source of the design is bpaf's `info.rs` and `params.rs`.
@@ -18,7 +19,9 @@
 mod environment;
 mod info;
 mod names;
+mod value;
 
 pub use environment::{absence, first_set, is_flag_present, is_present, take_argument};
 pub use info::{ExtraParams, Info, version_page};
 pub use names::CommandNames;
+pub use value::{read_text, value_or_refusal};

@@ -140,27 +140,11 @@ DefaultDescribes inner None shape = OptionalDescribes inner shape
 DefaultDescribes inner (Some text) shape =
     (inside : Shape) × inner inside × (shape ≡ Suffix (Optional inside) text)
 
--- the text of a default behind what it stands for
-abbrev pub default_text : List ℕ → List ℕ
-default_text value = codes "[default: " ++ value ++ codes "]"
-
--- a document of the default that prints this text; of any, where it isn't known what it prints
-abbrev pub IsDefault : Option (List ℕ) → List Piece → Type 0
-IsDefault (Some text) doc = doc ≡ text_pieces (default_text text)
-IsDefault None doc = (text : List ℕ) × (doc ≡ text_pieces (default_text text))
-
--- such a document is shown
+-- a document of the default that prints this text is shown
 abbrev pub ShowsDefault : Option (List ℕ) → Option (List Piece) → Type 0
 ShowsDefault text shown = (doc : List Piece) × IsDefault text doc × (shown ≡ Some doc)
 
--- a document of the default as a closure writes it
-abbrev pub IsFormatted : {T : Type 0} → (T → Result (String Global) AllocError → Type 0) → T
-    → List Piece → Type 0
-IsFormatted writes v doc =
-    (text : String Global) × writes v (Ok text)
-    × (doc ≡ text_pieces (default_text (string_bytes text)))
-
--- such a document is shown
+-- a document of the default as a closure writes it is shown
 abbrev pub ShowsFormatted : {T : Type 0} → (T → Result (String Global) AllocError → Type 0) → T
     → Option (List Piece) → Type 0
 ShowsFormatted writes v shown = (doc : List Piece) × IsFormatted writes v doc × (shown ≡ Some doc)

@@ -10,7 +10,7 @@ use Rattle.bpaf_line.specs.Situation.{open_count, Situation}
 use Rattle.bpaf_line.specs.declared.error.Message.{Message}
 use Rattle.bpaf_laws.specs.Command.{opening_words, IsOpenedAt, Called, inside}
 use Rattle.bpaf_laws.specs.Reading.{Outcome}
-use Rattle.bpaf_grammar.specs.Failures.{end_message}
+use Rattle.bpaf_line.specs.Failure.{end_message}
 use Rattle.bpaf_grammar.specs.Command.{EitherCommandOutcome, CommandOutcome, no_memory, missing}
 use Rattle.bpaf_grammar.specs.Command.{value}
 use Rattle.bpaf_grammar.specs.Command.{ended}

@@ -2,7 +2,7 @@
 //! its scope.
 ghost use Rattle.bpaf_grammar.specs.Grammar.{command, outcome_of, describes_of};
 ghost use Rattle.bpaf_grammar.specs.Command.{Enters, RunsInside, IsMissingPart};
-ghost use Rattle.bpaf_grammar.specs.{Failures.end_message, Ending.EndsRun};
+ghost use Rattle.bpaf_grammar.specs.Ending.{EndsRun};
 ghost use Rattle.std.specs.Prelude.{◌≡◌, ◌<◌, IfOk};
 ghost use Rattle.bpaf_doc.specs.Shape.{part_of};
 ghost use Rattle.bpaf_laws.specs.Command.{CommandPart};
@@ -12,7 +12,7 @@ use crate::commands::ParseCommand;
 use crate::parser::Parser;
 use crate::run::Run;
 use bpaf_doc::{Doc, Item, Meta, Text};
-use bpaf_line::{Error, Message, ParseFailure, State};
+use bpaf_line::{Error, ParseFailure, State};
 use std::alloc::{AllocError, Global};
 use std::marker::PhantomData;
 
@@ -94,17 +94,6 @@ impl<T: Drop, P: Parser<T>> ParseCommand<T, P> {
     }
 }
 
-/// The end of an inner run, as a refusal of its command: want of memory stays that. It takes no
-/// memory.
-fn end_message(failure: ParseFailure) -> Message
-    ensures { result ≡ end_message failure }
-{
-    match failure {
-        ParseFailure::Memory => Message::Memory,
-        failure => Message::ParseFailure(failure),
-    }
-}
-
 /// The value of the inner run over the items behind the command's word; Ok only where that leaves
 /// nothing present in scope.
 ///
@@ -123,7 +112,7 @@ impl<T: Drop, P: Parser<T>> Parser<T> for ParseCommand<T, P> {
         self.enter(state)?;
         match self.run_inside(state) {
             Ok(value) => Ok(value),
-            Err(failure) => Err(Error(end_message(failure))),
+            Err(failure) => Err(Error(failure.into_message())),
         }
     }
 

@@ -5,8 +5,8 @@ use Rattle.bpaf_line.specs.{declared.error.Error.Error, Situation.Situation, Mes
 use Rattle.bpaf_line.specs.Marks.{redone}
 use Rattle.bpaf_laws.specs.{Choice.ChoiceOutcome, Choice.is_memory_answer, Reading.Outcome}
 use Rattle.bpaf_laws.proofs.{ChoiceLaws.ran_outcome, Keeping.keeps_of}
-use Rattle.bpaf_core.specs.Branches.{HasAnswered, LedTo, start_of}
-use Rattle.bpaf_core.proofs.Branching.{chosen_kept, start_back, start_behind, start_kept}
+use Rattle.bpaf_choice.specs.Branches.{HasAnswered, LedTo, start_of}
+use Rattle.bpaf_choice.proofs.Branching.{chosen_kept, start_back, start_behind, start_kept}
 use Rattle.bpaf_core.proofs.choice.or_parser.Goals as goal
 
 -- want of memory is an answer of a choice, where all is as before

@@ -1,9 +1,9 @@
 //! Defaults as a help page shows them.
 ghost use Rattle.std.specs.{Prelude.IfOk, Prelude.◌≡◌, Fn.FnReturnsAt};
 ghost use Rattle.bpaf_doc.specs.Print.{text_pieces};
-ghost use Rattle.bpaf_laws.specs.Combinators.{IsDefault, IsFormatted, default_text};
+ghost use Rattle.bpaf_doc.specs.Default.{IsDefault, IsFormatted, default_text};
 
-use bpaf_doc::Doc;
+use crate::doc::Doc;
 use std::alloc::{AllocError, Global};
 use std::fmt::{Debug, Display};
 
@@ -16,7 +16,7 @@ fn shown_default(alloc: Global, value: &str) -> Result<Doc, AllocError>
 }
 
 /// The text of a default, as Display prints it; refused only for want of memory.
-pub(crate) fn displayed<T: Display>(alloc: Global, value: &T) -> Result<Doc, AllocError>
+pub fn displayed<T: Display>(alloc: Global, value: &T) -> Result<Doc, AllocError>
     ensures { IfOk result (IsDefault (T.output value.now)) }
 {
     let text = value.to_string(alloc)?;
@@ -24,7 +24,7 @@ pub(crate) fn displayed<T: Display>(alloc: Global, value: &T) -> Result<Doc, All
 }
 
 /// The text of a default, as Debug prints it; refused only for want of memory.
-pub(crate) fn debugged<T: Debug>(alloc: Global, value: &T) -> Result<Doc, AllocError>
+pub fn debugged<T: Debug>(alloc: Global, value: &T) -> Result<Doc, AllocError>
     ensures { IfOk result (IsDefault (T.debug_output value.now)) }
 {
     let text = format!(in alloc; "{value:?}")?;
@@ -32,7 +32,7 @@ pub(crate) fn debugged<T: Debug>(alloc: Global, value: &T) -> Result<Doc, AllocE
 }
 
 /// The text of a default, as a closure writes it; refused only for want of memory.
-pub(crate) fn formatted<T, F: Fn(&T) -> Result<String, AllocError>>(
+pub fn formatted<T, F: Fn(&T) -> Result<String, AllocError>>(
     alloc: Global,
     format: &F,
     value: &T,

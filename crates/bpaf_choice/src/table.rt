@@ -2,14 +2,24 @@
 ghost use Rattle.std.specs.Prelude.{◌≡◌, ◌⊎◌, IfOk, OnErr, Ok, map};
 ghost use Rattle.bpaf_doc.specs.Shape.{shape_of};
 ghost use Rattle.bpaf_line.specs.Marks.{Fits, CanRedo, undone, redone};
-ghost use Rattle.bpaf_laws.specs.Choice.{Chosen, BothOk, ValueOfWinner, OneOk, IsMemoryAnswer};
+ghost use Rattle.bpaf_laws.specs.Choice.{Chosen, BothOk, ValueOfWinner, OneOk, IsMemoryAnswer, is_memory_answer};
 ghost use Rattle.bpaf_laws.specs.Choice.{branch_of, either_shape};
-ghost use Rattle.bpaf_core.specs.Branches.{IsStart, IsBranch, start_of, end_of};
+ghost use Rattle.bpaf_choice.specs.Branches.{IsStart, IsBranch, start_of, end_of};
 
-use crate::choice::branch::{Branch, Start, resume};
+use crate::branch::{Branch, Start, resume};
 use bpaf_doc::Meta;
 use bpaf_line::{Error, Mark, State, Steps};
 use std::alloc::{AllocError, Global};
+
+/// Whether an answer is want of memory. It takes none.
+pub fn is_memory_answer<T>(answer: &Result<T, Error>) -> bool
+    ensures { result ≡ is_memory_answer answer.now }
+{
+    match answer {
+        Ok(_) => false,
+        Err(error) => error.is_memory(),
+    }
+}
 
 /// The answer of two branches that were evaluated from one start, by what each answered and where
 /// it led to (bpaf's `this_or_that_picks_first`, in `structs.rs`). The state is where the second
@@ -21,7 +31,7 @@ use std::alloc::{AllocError, Global};
 /// of the branch which took the leftmost place taken by only one of them, else the first. Two
 /// errors are combined. Where an error of equal depths is the answer, the state is as at the start;
 /// so it is where memory is wanted.
-pub(crate) fn this_or_that<T: Drop>(
+pub fn this_or_that<T: Drop>(
     state: &mut State,
     start: Start,
     first: Result<T, Error>,

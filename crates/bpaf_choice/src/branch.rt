@@ -1,9 +1,9 @@
 //! Branches of a choice, which begin at one place.
 ghost use Rattle.std.specs.Prelude.{◌≡◌, IfOk, OnOk, OnErr};
 ghost use Rattle.bpaf_line.specs.Marks.{Fits, HasReached, CanRedo, undone, redone};
-ghost use Rattle.bpaf_core.specs.Branches.{IsStart, LedTo};
+ghost use Rattle.bpaf_choice.specs.Branches.{GivesBack, IsStart, LedTo};
 
-use bpaf_line::{Mark, State, Steps};
+use bpaf_line::{Mark, ParseFailure, State, Steps};
 use std::alloc::AllocError;
 
 /// Where branches begin: the mark of that situation, and how many items are present in it.
@@ -65,7 +65,7 @@ impl Branch {
 
 /// Goes back to a mark, and does the steps since it; where memory is refused the state is that of
 /// the mark.
-pub(crate) fn resume(state: &mut State, mark: Mark, steps: Steps) -> Result<(), AllocError>
+pub fn resume(state: &mut State, mark: Mark, steps: Steps) -> Result<(), AllocError>
     requires fits { Fits mark state.old }
     requires steps { CanRedo steps (undone mark state.old) }
     ensures ok { OnOk result (state.new ≡ redone steps (undone mark state.old)) }
@@ -75,4 +75,29 @@ pub(crate) fn resume(state: &mut State, mark: Mark, steps: Steps) -> Result<(), 
 {
     state.undo(mark);
     state.redo(steps)
+}
+
+/// The failure of a first attempt, where its steps led, since a second one failed too; want of
+/// memory at the mark, where the second one ended so, or memory for doing the steps again is
+/// refused.
+pub fn first_failure(
+    state: &mut State,
+    mark: Mark,
+    steps: Steps,
+    first: ParseFailure,
+    second: ParseFailure,
+) -> ParseFailure
+    requires fits { Fits mark state.old }
+    requires steps { CanRedo steps (undone mark state.old) }
+    ensures { GivesBack first second (undone mark state.old)
+        (redone steps (undone mark state.old)) result state.new }
+{
+    if second.is_memory() {
+        state.undo(mark);
+        return second;
+    }
+    match resume(state, mark, steps) {
+        Ok(()) => first,
+        Err(refused) => ParseFailure::from(refused),
+    }
 }

@@ -6,9 +6,9 @@ use Rattle.bpaf_line.proofs.Marks.{fits_undone, undone_twice}
 use Rattle.bpaf_laws.specs.{Choice.Chosen, Choice.ChoiceOutcome, Choice.IsMemoryAnswer}
 use Rattle.bpaf_laws.specs.{Reading.Outcome}
 use Rattle.bpaf_laws.proofs.ChoiceLaws.{choice_within}
-use Rattle.bpaf_core.specs.Branches.{HasAnswered, IsStart, LedTo, start_of, end_of}
-use Rattle.bpaf_core.specs.{declared.choice.branch.Branch.Branch}
-use Rattle.bpaf_core.specs.{declared.choice.branch.Start.Start}
+use Rattle.bpaf_choice.specs.Branches.{HasAnswered, IsStart, LedTo, start_of, end_of}
+use Rattle.bpaf_choice.specs.{declared.branch.Branch.Branch}
+use Rattle.bpaf_choice.specs.{declared.branch.Start.Start}
 
 -- what lies behind a situation that can go back to a start can go back to it too
 pub start_behind : {start : Start} {t : Situation} → IsStart start t
