@@ -1,6 +1,6 @@
 //! What closures make of a parser's value, and the checks that they do.
 ghost use Rattle.bpaf_grammar.specs.Grammar.{mapped, parsed, guarded, closed};
-ghost use Rattle.std.specs.{Prelude.Ok, Fn.FnReturnsAt};
+ghost use Rattle.std.specs.{Prelude.Ok, Prelude.◌≡◌, Prelude.◌⊎◌, Fn.FnReturnsAt};
 
 use crate::parser::Parser;
 use bpaf_doc::{Meta, Text};
@@ -69,6 +69,18 @@ impl<T, R, E: Display + Drop, P: Parser<T>, F: Fn(T) -> Result<R, E>> Parser<R>
     }
 }
 
+/// The refusal of a value of which a check is false: GuardFailed with the message, which names the
+/// current place; or want of memory, for the message.
+fn guard_failed(state: &State, message: &str) -> Error
+    ensures { (result.0 ≡ Message.GuardFailed state.now.current message.now)
+        ⊎ (result.0 ≡ Message.Memory) }
+{
+    match Text::new(state.alloc(), message) {
+        Ok(message) => Error(Message::GuardFailed(state.current(), message)),
+        Err(_) => Error(Message::Memory),
+    }
+}
+
 /// The inner value, where a check is true of it (bpaf's `ParseGuard`, in `structs.rs`).
 #[derive(Drop)]
 pub struct ParseGuard<'m, P, F> {
@@ -89,10 +101,10 @@ impl<'m, T: Drop, P: Parser<T>, F: Fn(&T) -> bool> Parser<T> for ParseGuard<'m, 
     fn eval(&self, state: &mut State) -> Result<T, Error> {
         let value = self.inner.eval(state)?;
         if (self.check)(&value) {
-            return Ok(value);
+            Ok(value)
+        } else {
+            Err(guard_failed(state, self.message))
         }
-        let message = Text::new(state.alloc(), self.message)?;
-        Err(Error(Message::GuardFailed(state.current(), message)))
     }
 
     fn meta(&self, alloc: Global) -> Result<Meta, AllocError> {

@@ -1,13 +1,13 @@
 -- Combinators over one inner parser: what changes its value, what stands in for one, repeats, and
 -- what is shown otherwise; and leaves that look at no item.
-use Rattle.std.specs.Prelude.{string_bytes, Result, Option, IfSome, String, length, false, codes, ℕ}
+use Rattle.std.specs.Prelude.{Result, Option, IfSome, String, length, false, ℕ}
 use Rattle.std.specs.Prelude.{Bool, true, List, ◌==◌, ◌&&◌, ◌||◌, Some, None, ◌++◌, ◌≡◌, ◌⊎◌, Err}
 use Rattle.std.specs.Prelude.{◌<◌, ◌≤◌, not, ◌+◌, ◌∷◌, Ok, [], ⊤}
 use Rattle.std.specs.{declared.alloc.AllocError.AllocError, declared.alloc.Global.Global}
 use Rattle.std.specs.Global.{Vec}
 use Rattle.bpaf_doc.specs.Shape.{CustomUsage, Subsection, Optional, Required, shape_of, Suffix}
 use Rattle.bpaf_doc.specs.{declared.meta.MetaInfo.MetaInfo, declared.doc.Piece.Piece}
-use Rattle.bpaf_doc.specs.{Shape.Shape, Shape.Many, Print.text_pieces}
+use Rattle.bpaf_doc.specs.{Shape.Shape, Shape.Many, Default.IsDefault, Default.IsFormatted}
 use Rattle.bpaf_line.specs.declared.error.Message.TheVariants.{ParseFailed, GuardFailed, PureFailed}
 use Rattle.bpaf_line.specs.declared.error.Message.TheVariants.{ParseFail, ParseSome, Missing}
 use Rattle.bpaf_line.specs.Situation.{with_current, open_count, Situation, Context}
