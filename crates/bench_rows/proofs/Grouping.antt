@@ -2,22 +2,21 @@
 -- that accepts one text alone.
 use Rattle.std.proofs.Common.{◌≡◌, ℕ, Bool, List, Result, Ok, Err, Option, Some, None, sym, ⊎_elim}
 use Rattle.std.proofs.Common.{String, string_bytes, inl, inr, ◌<◌, ◌≤◌, [], ◌∷◌, length, get_or}
-use Rattle.std.proofs.Common.{◌≢◌, IfOk}
-use Rattle.std.proofs.{lemmas.List.Elements.All-weaker, Common.refl, Common.arith}
+use Rattle.std.proofs.Common.{◌≢◌, IfOk, refl, arith}
+use Rattle.std.proofs.lemmas.List.Elements.{All-weaker}
 use Rattle.std.specs.declared.alloc.Global.{Global}
-use Rattle.bpaf_doc.specs.{declared.doc.Piece.Piece, declared.meta.Meta.Meta, Shape.Any}
-use Rattle.bpaf_doc.specs.Shape.{Part, Skip, shape_of}
+use Rattle.bpaf_doc.specs.Shape.{Any, Part, Skip, shape_of}
+use Rattle.bpaf_doc.specs.{declared.doc.Piece.Piece, declared.meta.Meta.Meta}
 use Rattle.bpaf_base.specs.{declared.arg.Arg.Arg, Items.item_text}
-use Rattle.bpaf_line.specs.declared.error.Message.{Message}
 use Rattle.bpaf_line.specs.declared.error.Message.TheVariants.{Memory, Missing}
-use Rattle.bpaf_line.specs.{declared.error.Error.Error, Situation.Situation}
-use Rattle.bpaf_laws.specs.Product.{ProductOutcome}
+use Rattle.bpaf_line.specs.{declared.error.Message.Message, declared.error.Error.Error}
+use Rattle.bpaf_line.specs.Situation.{Situation}
 use Rattle.bpaf_laws.specs.Leaves.{Looks, AnyOutcome, AnyFails, ArePassed, ChecksText}
-use Rattle.bpaf_laws.specs.{Adjacent.GroupDescribes, Adjacent.GroupOutcome, Laws.Spares}
-use Rattle.bpaf_laws.specs.Reading.{Outcome}
+use Rattle.bpaf_laws.specs.{Adjacent.GroupDescribes, Adjacent.GroupOutcome, Product.ProductOutcome}
+use Rattle.bpaf_laws.specs.{Reading.Outcome, Laws.Spares}
 use Rattle.bpaf_laws.proofs.AdjacentLaws.{spared_group}
 use Rattle.bench_rows.specs.Levels.{AcceptsText, together_grammar, tuple_grammar}
-use Rattle.bench_values.specs.{declared.value.Value.Value}
+use Rattle.bench_values.specs.declared.value.Value.{Value}
 use Rattle.bpaf_grammar.specs.{Grammar.Grammar, Grammar.describes_of, Own.MadeOutcome}
 
 module _ {T : Type 0} (looks more : Looks T)
@@ -28,14 +27,14 @@ module _ {T : Type 0} (looks more : Looks T)
   passed_more items = All-weaker (λ placed. looks (item_text placed.1) None)
       (λ placed. more (item_text placed.1) None) (λ placed. allows (item_text placed.1) None) items
 
-  -- so is a refusal
+  -- a refusal is one of a look that allows more
   fails_more : (m : Message) → AnyFails looks part anywhere s m t
       → AnyFails more part anywhere s m t
   fails_more (Missing items) fails = ((passed_more _ fails.0.0, fails.0.1), fails.1)
   fails_more Memory fails = fails
   fails_more other fails = absurd fails
 
-  -- and what is answered
+  -- what is answered is answered by a look that allows more
   any_more : (r : Result T Error) → AnyOutcome looks part anywhere s r t
       → AnyOutcome more part anywhere s r t
   any_more (Ok v) o = (
@@ -63,7 +62,8 @@ accepts_text : (accepted : String Global) (checks : String Global → Option Val
     → (text : List ℕ) (found : Option Value) → ChecksText MeansText checks text found
     → AcceptsText (string_bytes accepted) text found
 accepts_text accepted checks by text (Some v) look = rw look.1 at (by look.0 (Some v) look.2)
-accepts_text accepted checks by text None look = ⊎_elim (λ unread. λ same. unread accepted (sym same))
+accepts_text accepted checks by text None look = ⊎_elim
+    (λ unread. λ same. unread accepted (sym same))
     (λ seen. rw seen.1 at (by seen.0 None seen.2)) look
 
 -- what `any` answers by such a check, shown by an equal metavar
@@ -111,7 +111,7 @@ nested_by {V} fields {makes} told s t r ran same = told_as (ProductOutcome field
     by_answer (Ok v) ran = same_product fields same s t (Ok v) ran tt
     by_answer (Err e) ran = ran
 
--- so is a group by it that begins with an item
+-- a group by such a constructor that begins with an item, told as one value
 pub begun_by : {V : Type 0} (fast : Outcome V) {makes : V → V → Type 0}
     (told : V → Value → Type 0) (first : Part) (s t : Situation) (r : Result Value Error)
     → MadeOutcome (GroupOutcome V (ProductOutcome fast makes) first) told s r t → IsSame makes

@@ -1,28 +1,24 @@
 -- A level: what its kind makes of the inner parsers, of several of one type or of a group of them.
 use Rattle.std.specs.Prelude.{codes, List, Ok, Err, ◌∷◌, [], ◌≡◌, ◌≢◌, ℕ, Some, None, Result}
-use Rattle.std.specs.Prelude.{String, string_bytes}
-use Rattle.std.specs.declared.alloc.Global.{Global}
-use Rattle.bpaf_doc.specs.Shape.{Part, part_of}
-use Rattle.bpaf_doc.specs.declared.item.Item.{Item}
-use Rattle.bpaf_line.specs.declared.error.Message.TheVariants.{Memory}
-use Rattle.bpaf_line.specs.{declared.error.Error.Error, Situation.Situation}
-use Rattle.bpaf_laws.specs.Adjacent.{GroupDescribes, StretchReads}
-use Rattle.bpaf_laws.specs.Combinators.{GivesRefusal, MapReads, PureOutcome}
-use Rattle.bpaf_laws.specs.{Laws.IsNotMemory, Laws.Lawful, Leaves.Looks, Reading.Readings}
-use Rattle.bpaf_laws.specs.Product.{ProductDescribes}
-use Rattle.bpaf_laws.proofs.Keeping.{AnswersLawfully, keeps_refl, lawful_answer, lawful_by, names_same}
-use Rattle.bpaf_laws.proofs.{LeafLaws.refusal_lawful, ShownNames.group_shows}
-use Rattle.bpaf_laws.proofs.ShownNames.{product_shows}
-use Rattle.bpaf_grammar.specs.Grammar.{FieldsGrammar, Grammar, alone, both, choices_of, describes_of}
-use Rattle.bpaf_grammar.specs.Grammar.{made, only, outcome_of, own, product, reads_of, shorts_of}
-use Rattle.bpaf_grammar.specs.Grammar.{stretch}
-use Rattle.bpaf_grammar.specs.{Fast.fast_product, Laws.fields_show, Laws.lawful_of, Leaves.refusal}
-use Rattle.bpaf_grammar.specs.Own.{Own}
-use Rattle.bpaf.specs.Remembering.{IsFirstOf, IsRefused}
-use Rattle.bpaf.specs.declared.adjacent.AdjacentError.TheVariants.{NoFirstItem}
+use Rattle.bpaf_laws.proofs.Keeping.{AnswersLawfully, keeps_refl, lawful_answer, lawful_by}
+use Rattle.bpaf_grammar.specs.Grammar.{FieldsGrammar, Grammar, alone, both, choices_of}
+use Rattle.bpaf_grammar.specs.Grammar.{describes_of, made, only, outcome_of, own, product, reads_of}
 use Rattle.bench_values.specs.Modifiers.{Clones, ToldPair, ToldQuadruple, ToldTriple}
+use Rattle.std.specs.{Prelude.String, Prelude.string_bytes, declared.alloc.Global.Global}
+use Rattle.bpaf_doc.specs.{Shape.Part, Shape.part_of, declared.item.Item.Item}
+use Rattle.bpaf_line.specs.{declared.error.Message.TheVariants.Memory, declared.error.Error.Error}
+use Rattle.bpaf_line.specs.Situation.{Situation}
+use Rattle.bpaf_laws.specs.Combinators.{GivesRefusal, MapReads, PureOutcome}
+use Rattle.bpaf_laws.specs.{Adjacent.GroupDescribes, Adjacent.StretchReads, Reading.Readings}
+use Rattle.bpaf_laws.specs.{Laws.IsNotMemory, Laws.Lawful, Product.ProductDescribes, Leaves.Looks}
+use Rattle.bpaf_laws.proofs.{ShownNames.group_shows, ShownNames.product_shows, Keeping.names_same}
+use Rattle.bpaf_laws.proofs.LeafLaws.{refusal_lawful}
+use Rattle.bpaf_grammar.specs.{Grammar.shorts_of, Grammar.stretch, Laws.fields_show, Laws.lawful_of}
+use Rattle.bpaf_grammar.specs.{Fast.fast_product, Leaves.refusal, Own.Own}
+use Rattle.bpaf.specs.declared.adjacent.AdjacentError.TheVariants.{NoFirstItem}
+use Rattle.bpaf.specs.Remembering.{IsFirstOf, IsRefused}
 use Rattle.bench_values.specs.Modifiers.{called_grammar, over_grammar}
-use Rattle.bench_values.specs.{declared.kind.Kind.Kind, declared.value.Value.Value}
+use Rattle.bench_values.specs.{declared.value.Value.Value, declared.kind.Kind.Kind}
 use Rattle.bench_values.specs.declared.kind.Kind.TheVariants as kind
 use Rattle.bench_values.specs.declared.value.Value.TheVariants as value
 
@@ -118,5 +114,6 @@ level_grammar of clones (kind.Command called adjacent) ps =
 -- the text as a value, where it is the wanted one
 abbrev pub AcceptsText : List ℕ → Looks Value
 AcceptsText accepted text (Some v) =
-    (text ≡ accepted) × ((kept : String Global) × (v ≡ value.Text kept) × (string_bytes kept ≡ text))
+    (text ≡ accepted) × ((kept : String Global) × (v ≡ value.Text kept)
+    × (string_bytes kept ≡ text))
 AcceptsText accepted text None = text ≢ accepted

@@ -1,23 +1,20 @@
 -- One parser under a modifier or as a command, and what values are told as.
 use Rattle.std.specs.Prelude.{◌≡◌, ⊤, ℕ, ◌/◌, Bool, not, List, Result, Ok, Err, Option, Some, None}
-use Rattle.std.specs.declared.collections.VecDeque.{VecDeque}
-use Rattle.std.specs.Prelude.{◌⊎◌, true, [], ◌∷◌, All, codes, false}
-use Rattle.std.specs.{declared.alloc.Global.Global, Global.Box, Global.Vec}
-use Rattle.bench_values.specs.declared.value.Value.TheVariants.{Absent, Present, Tuple}
-use Rattle.bench_values.specs.{declared.kind.Modifier.Modifier, declared.value.Value.Value}
-use Rattle.std.proofs.Common.{⊎_elim}
-use Rattle.std.proofs.Common.{ap, inl, inr, sym, true≢false, ◌∙◌}
-use Rattle.bpaf_laws.specs.Laws.{IsNotMemory, Spares}
 use Rattle.bpaf_grammar.specs.Grammar.{Grammar, answered, cloned, closed, collect, command, count}
 use Rattle.bpaf_grammar.specs.Grammar.{describes_of, dressed, fallback, guarded, hide, last, made}
 use Rattle.bpaf_grammar.specs.Grammar.{many, mapped, optional, outcome_of, own, parsed, reads_of}
-use Rattle.bpaf_grammar.specs.Grammar.{repeat, shorts_of, some}
-use Rattle.bpaf_grammar.specs.{Laws.lawful_of, Laws.shows_of, Own.Own}
+use Rattle.std.specs.Prelude.{◌⊎◌, true, [], ◌∷◌, All, codes, false}
+use Rattle.std.specs.{declared.collections.VecDeque.VecDeque, declared.alloc.Global.Global}
+use Rattle.std.specs.Global.{Box, Vec}
+use Rattle.bench_values.specs.declared.value.Value.TheVariants.{Absent, Present, Tuple}
+use Rattle.bench_values.specs.{declared.kind.Modifier.Modifier, declared.value.Value.Value}
+use Rattle.std.proofs.Common.{⊎_elim, ap, inl, inr, sym, true≢false, ◌∙◌}
+use Rattle.bpaf_laws.specs.Combinators.{ParseOutcome, Gives, GivesAnswer}
+use Rattle.bpaf_laws.specs.{Laws.IsNotMemory, Laws.Spares, Laws.Lawful, Command.Called}
+use Rattle.bpaf_laws.specs.Reading.{Readings, Outcome}
+use Rattle.bpaf_grammar.specs.{Grammar.repeat, Grammar.shorts_of, Grammar.some, Own.Own}
+use Rattle.bpaf_grammar.specs.Laws.{lawful_of, shows_of}
 use Rattle.bpaf_line.specs.{declared.error.Message.TheVariants.Memory, Messages.is_memory}
-use Rattle.bpaf_laws.specs.Combinators.{ParseOutcome, Gives}
-use Rattle.bpaf_laws.specs.Combinators.{GivesAnswer}
-use Rattle.bpaf_laws.specs.{Command.Called, Laws.Lawful}
-use Rattle.bpaf_laws.specs.{Reading.Readings, Reading.Outcome}
 use Rattle.bpaf_laws.proofs.Keeping.{names_same, keeps_same}
 use Rattle.bpaf_keys.specs.Info.{plain_info}
 use Rattle.bench_values.specs.declared.value.Value.TheVariants as value

@@ -1,17 +1,16 @@
 //! The combinators over one described parser.
-ghost use Rattle.bpaf_grammar.specs.Grammar.{outcome_of, describes_of};
-ghost use Rattle.std.specs.Prelude.{IfOk, true};
-ghost use Rattle.bpaf_doc.specs.Shape.{shape_of};
 ghost use Rattle.bpaf_laws.specs.Combinators.{HideOutcome, FallbackOutcome, GivesClone};
 ghost use Rattle.bpaf_laws.specs.Combinators.{OptionalDescribes, CollectOutcome, CountOutcome};
 ghost use Rattle.bpaf_laws.specs.Combinators.{LastOutcome, ManyDescribes, ManyOutcome};
 ghost use Rattle.bpaf_laws.specs.Combinators.{SomeDescribes, SomeOutcome, TurnOutcome};
-ghost use Rattle.bpaf_laws.specs.Combinators.{GuardOutcome, MapOutcome};
-ghost use Rattle.bpaf_grammar.specs.Own.{MadeOutcome};
 ghost use Rattle.bench_values.specs.Modifiers.{Checks, IsHalf, ToldOption, ToldQueue};
 ghost use Rattle.bench_values.specs.Modifiers.{AcceptOutcome, FillsQueue, GivesNumber};
-ghost use Rattle.bench_values.specs.Modifiers.{over_grammar, ToldCount, ToldList};
-ghost use Rattle.bench_values.specs.Modifiers.{need_one, number_of, too_much};
+ghost use Rattle.bench_values.specs.Modifiers.{over_grammar, ToldCount, ToldList, need_one};
+ghost use Rattle.bpaf_grammar.specs.{Grammar.outcome_of, Grammar.describes_of, Own.MadeOutcome};
+ghost use Rattle.std.specs.Prelude.{IfOk, true};
+ghost use Rattle.bpaf_doc.specs.Shape.{shape_of};
+ghost use Rattle.bpaf_laws.specs.Combinators.{GuardOutcome, MapOutcome};
+ghost use Rattle.bench_values.specs.Modifiers.{number_of, too_much};
 
 use crate::as_value::tell;
 use crate::closures::{accept, give, half};
@@ -65,7 +64,8 @@ fn some<P: Parser<Value>>(inner: &P, catch: bool, state: &mut State) -> Result<V
 /// The values of a parser, in a queue.
 fn queue<P: Parser<Value>>(inner: &P, catch: bool, state: &mut State) -> Result<Value, Error>
     requires { P.can_eval inner.now }
-    ensures { MadeOutcome (CollectOutcome (outcome_of (P.grammar inner.now)) catch FillsQueue) ToldQueue
+    ensures { MadeOutcome (CollectOutcome (outcome_of (P.grammar inner.now)) catch FillsQueue)
+        ToldQueue
         state.old result state.new }
 {
     let parser: ParseCollect<Lent<'_, P>, VecDeque<Value>, Value> = ParseCollect {
@@ -117,7 +117,8 @@ fn mapped<P: Parser<Value>>(inner: &P, state: &mut State) -> Result<Value, Error
 /// The value of a parser, if its weight is below the limit.
 fn guarded<P: Parser<Value>>(inner: &P, limit: u64, state: &mut State) -> Result<Value, Error>
     requires { P.can_eval inner.now }
-    ensures { GuardOutcome (outcome_of (P.grammar inner.now)) Checks too_much state.old result state.new }
+    ensures { GuardOutcome (outcome_of (P.grammar inner.now)) Checks too_much state.old result
+        state.new }
 {
     let parser = ParseGuard {
         inner: Lent { inner },
@@ -218,7 +219,8 @@ pub fn modified<P: Parser<Value>>(
 /// What an optional value shows.
 fn optional_meta<P: Parser<Value>>(inner: &P, alloc: Global) -> Result<Meta, AllocError>
     requires { P.can_eval inner.now }
-    ensures { IfOk result (λ meta. OptionalDescribes (describes_of (P.grammar inner.now)) (shape_of meta)) }
+    ensures { IfOk result (λ meta. OptionalDescribes (describes_of (P.grammar inner.now))
+        (shape_of meta)) }
 {
     let inner = Lent { inner };
     let parser: ParseOptional<Lent<'_, P>> = ParseOptional {
@@ -231,7 +233,8 @@ fn optional_meta<P: Parser<Value>>(inner: &P, alloc: Global) -> Result<Meta, All
 /// What a repeat shows.
 fn many_meta<P: Parser<Value>>(inner: &P, alloc: Global) -> Result<Meta, AllocError>
     requires { P.can_eval inner.now }
-    ensures { IfOk result (λ meta. ManyDescribes (describes_of (P.grammar inner.now)) (shape_of meta)) }
+    ensures { IfOk result (λ meta. ManyDescribes (describes_of (P.grammar inner.now))
+        (shape_of meta)) }
 {
     let inner = Lent { inner };
     let parser: ParseMany<Lent<'_, P>> = ParseMany {
@@ -244,7 +247,8 @@ fn many_meta<P: Parser<Value>>(inner: &P, alloc: Global) -> Result<Meta, AllocEr
 /// What a repeat shows that has one value at least.
 fn some_meta<P: Parser<Value>>(inner: &P, alloc: Global) -> Result<Meta, AllocError>
     requires { P.can_eval inner.now }
-    ensures { IfOk result (λ meta. SomeDescribes (describes_of (P.grammar inner.now)) (shape_of meta)) }
+    ensures { IfOk result (λ meta. SomeDescribes (describes_of (P.grammar inner.now))
+        (shape_of meta)) }
 {
     let inner = Lent { inner };
     let parser: ParseLast<Lent<'_, P>> = ParseLast { inner };

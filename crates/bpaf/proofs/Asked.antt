@@ -39,13 +39,13 @@ abbrev pub IsAlsoShown : Showing → Showing → Type 0
 IsAlsoShown showing other =
     (s : Situation) (doc : List Piece) (full : Bool) → showing s doc full → other s doc full
 
--- so it is where that was come to
+-- what was come to that the one shows is come to that the other shows
 pub came_also : {showing other : Showing} → IsAlsoShown showing other → {s : Situation}
     {doc : List Piece} {full : Bool} → CameTo showing s doc full → CameTo other s doc full
 came_also also {doc = doc} {full} came =
     record { there = came.there; keeps = came.keeps; shown = also came.there doc full came.shown }
 
--- so it is of what a parser hands on
+-- a parser that hands on what the one shows hands on what the other does
 pub hands_also : {T : Type 0} {inner : Outcome T} {showing other : Showing}
     → IsAlsoShown showing other → HandsOn showing inner → HandsOn other inner
 hands_also also inside =
@@ -67,7 +67,7 @@ module _ {showing : Showing} where
         absurd (absence_hands_on s (flag_part named) named.envs doc full (rw is at o).2);
   }
 
-  -- nor does an argument
+  -- an argument shows nothing
   pub argument_hands_on : {T : Type 0} (means : List ℕ → T → Type 0) (argument : KeyWithValue)
       → HandsOn showing (ArgumentOutcome means argument)
   argument_hands_on means argument = record {
@@ -75,7 +75,7 @@ module _ {showing : Showing} where
         argument.named.envs doc full (rw is at o).1.1);
   }
 
-  -- nor does a positional word
+  -- a positional word shows nothing
   pub positional_hands_on : {T : Type 0} (means : List ℕ → T → Type 0) (position : Position)
       (metavar : List ℕ) → HandsOn showing (PositionalOutcome means position metavar)
   positional_hands_on means position metavar =
@@ -133,7 +133,7 @@ module _ {showing : Showing} where
           (λ want. absurd (true≢false (sym want.0 ∙ ap is_memory is))) o;
     }
 
-    -- so does what has a default
+    -- what has a default shows what it does without one
     pub default_hands_on : (clones : T → T → Type 0) (kept : T)
         → HandsOn showing (FallbackOutcome inner (GivesClone clones kept))
     default_hands_on clones kept = record {
@@ -175,7 +175,8 @@ module _ {describes : Shape → Type 0} {info : RunInfo} where
       → IsAskedAt describes info s doc full
   tells_asked plain (shown asked g u looked shows) =
       record { after = u; asked = asked; looked = looked; shows = shows }
-  tells_asked {m} plain (told e g u looked other renders) = absurd (renders_nothing m u _ _ plain renders)
+  tells_asked {m} plain (told e g u looked other renders) = absurd
+      (renders_nothing m u _ _ plain renders)
 
   module _ {T : Type 0} {inner : Outcome T} {reads : Readings T} (law : Lawful T inner reads)
       {showing : Showing} (inside : HandsOn showing inner)
@@ -205,7 +206,7 @@ module _ {describes : Shape → Type 0} {info : RunInfo} where
     end_shows {left = left} keeps handed (leftover n before from g u is_left tells) =
         told_asked keeps (leftover_is_told left n is_left) tells
 
-    -- so does a run
+    -- a run shows what it was asked for, or what its parser does
     pub run_shows : {s t : Situation} {doc : List Piece} {full : Bool}
         → Runs T inner (EndsRun describes info) s (Err (failure.Stdout doc full)) t
         → CameTo (RunShows describes info showing) s doc full
@@ -215,7 +216,7 @@ module _ {describes : Shape → Type 0} {info : RunInfo} where
         end_shows (law.err s left e answered)
         (λ said same answer. inside.all s e left doc full answered cc) ends
 
-    -- so does an answer without a value
+    -- an answer without a value shows what its run was asked for, or what its parser does
     pub answer_shows : {known : Known} {given : Given} (r : Result T ParseFailure)
         → RunsWords T inner describes info known given r
         → IfErr r (IfShown (WordsShow known given (RunShows describes info showing)))
@@ -223,7 +224,8 @@ module _ {describes : Shape → Type 0} {info : RunInfo} where
         record { context = context; on_line = line; run = run_shows runs }
     answer_shows (Err (failure.Stdout doc full))
         (run.no_line word number context g lacks empty name renders) =
-        absurd (renders_nothing (message.Ambiguity word number) (beginning context) doc full refl renders)
+        absurd (renders_nothing (message.Ambiguity word number) (beginning context) doc full refl
+        renders)
     answer_shows (Ok v) runs = tt
     answer_shows (Err (failure.Stderr doc)) runs = tt
     answer_shows (Err failure.Memory) runs = tt
@@ -248,7 +250,7 @@ asked_at_also {describes} {others} {info} also s doc full at = record {
     )
     shows_also (extra.Version version) shows = shows
 
--- so it is of a run over words, of which more may be shown
+-- what a run over words shows, it shows where more may be shown
 pub words_also : {known : Known} {given : Given} {showing wider : Showing}
     → IsAlsoShown showing wider → {doc : List Piece} {full : Bool}
     → WordsShow known given showing doc full → WordsShow known given wider doc full

@@ -15,7 +15,7 @@ use Rattle.bpaf_core.specs.Command.{AdjacentOutcome, Attempt, Attempts, EitherCo
 use Rattle.bpaf_core.specs.Command.{failed, first_fails, no_path, nothing_left, second_fails}
 use Rattle.bpaf_core.specs.Command.{unnamed, CommandOutcome, IsMissingPart, ended}
 use Rattle.bpaf_core.specs.Command.{missing, no_memory}
-use Rattle.bpaf_core.specs.{Failures.end_message, Ending.Ending, Ending.EndsRun, Info.RunInfo}
+use Rattle.bpaf_core.specs.{Failure.end_message, Ending.Ending, Ending.EndsRun, Info.RunInfo}
 use Rattle.bpaf.specs.Asked.{BehindWord, CameTo, HandsOn, RunShows, Showing, inner_answer}
 use Rattle.bpaf.proofs.Asked.{IsAlsoShown, came_also, came_from, run_shows}
 use Rattle.bpaf_line.specs.declared.failure.ParseFailure.TheVariants as failure
@@ -47,13 +47,13 @@ module _ {showing : Showing} {T : Type 0} {first second : Outcome T}
     Shows (Ok v) t = Unit {0}
     Shows (Err e) t = e.0 ≡ inner_answer doc full → CameTo showing s doc full
 
-    -- so does that of a branch
+    -- the answer of a branch that hands on what was shown came to it
     branch_shows : {branch : Outcome T} → HandsOn showing branch → (r : Result T Error)
         (t : Situation) → branch s r t → Shows r t
     branch_shows branch (Ok v) t ran = tt
     branch_shows branch (Err e) t ran = branch.all s e t doc full ran
 
-    -- so does the one chosen of two
+    -- the answer chosen of two came to what was shown
     chosen_shows : (r : Result T Error) (t : Situation) → BranchesEval first second s r t
         → Shows r t
     chosen_shows r t ran = of_chosen s Shows (λ v m loser place t saved it. tt) (λ e m shows. shows)
@@ -102,7 +102,7 @@ module _ (describes : Shape → Type 0) (info : RunInfo) {T : Type 0} {inner : O
     attempt_shows {end} run ran =
         came_from (keeps_stretch s from end run.present) (run_shows law handed plain ran)
 
-    -- so does what follows it
+    -- what follows an attempt shows what it was asked for, or what the parser does
     retry_shows : {end : ℕ} {f : Failure} {t u : Situation} → IsStretchFrom s from end
         → Attempt T inner Ends s from end (Err f) t
         → Retry T inner Ends s from end f t (Err (failure.Stdout doc full)) u
@@ -110,7 +110,7 @@ module _ (describes : Shape → Type 0) (info : RunInfo) {T : Type 0} {inner : O
     retry_shows run ran (nothing_left told taken) = attempt_shows run ran
     retry_shows run ran (second_fails h stop w told left again other) = attempt_shows run ran
 
-    -- so do attempts
+    -- attempts show what they were asked for, or what the parser does
     attempts_show : {u : Situation}
         → Attempts T inner Ends s from (Err (failure.Stdout doc full)) u → CameTo Behind s doc full
     attempts_show (first_fails f end t r w run ran retry) = retry_shows run ran retry

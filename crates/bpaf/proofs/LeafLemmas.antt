@@ -1,17 +1,15 @@
--- Leaves: how the answer of a positional word is put together, which items were passed by, and a key
--- with a help.
+-- Leaves: how the answer of a positional word is put together, which items were passed by, and a
+-- key with a help.
 use Rattle.std.proofs.Common.{◌≡◌, ℕ, Bool, true, false, List, Result, Ok, Err, inr, sym, refl}
 use Rattle.std.proofs.Common.{true≢false, ◌∙◌, ap, [], ◌∷◌, ◌++◌, append_assoc, None}
 use Rattle.std.proofs.lemmas.List.Elements.{All-push}
 use Rattle.bpaf_line.specs.declared.error.Message.TheVariants.{Memory, ParseFailed}
-use Rattle.bpaf_line.specs.Situation.{Situation}
-use Rattle.bpaf_line.specs.{declared.error.Message.Message, declared.error.Error.Error}
-use Rattle.bpaf_line.specs.{Taking.TakesText, Taking.open_items}
-use Rattle.bpaf_laws.specs.Reading.{ReadsValue, FaultsText}
-use Rattle.bpaf_laws.specs.Leaves.{ArePassed, Looks}
+use Rattle.bpaf_line.specs.{Taking.TakesText, Taking.open_items, declared.error.Message.Message}
+use Rattle.bpaf_line.specs.{declared.error.Error.Error, Situation.Situation}
+use Rattle.bpaf_laws.specs.{Reading.ReadsValue, Reading.FaultsText, Leaves.ArePassed, Leaves.Looks}
 use Rattle.bpaf_grammar.specs.Positional.{PositionalOutcome, PositionalFails, accepts, misplaced}
-use Rattle.bpaf_grammar.specs.{declared.position.Position.Position}
-use Rattle.bpaf_doc.specs.{declared.doc.Piece.Piece}
+use Rattle.bpaf_grammar.specs.declared.position.Position.{Position}
+use Rattle.bpaf_doc.specs.declared.doc.Piece.{Piece}
 use Rattle.bpaf_base.specs.{declared.arg.Arg.Arg, Items.item_text}
 use Rattle.bpaf_text.specs.Named.{KeyWithValue, with_help}
 

@@ -5,7 +5,8 @@ use Rattle.std.proofs.Common.{Result, Ok, Err, MatchResult, Some, ap, sym, ◌�
 use Rattle.std.proofs.Common.{Option, None, List, [], ◌∷◌, refl, ⊎_elim, option_map, zero, suc, ◌-◌}
 use Rattle.std.proofs.lemmas.Bool.Decides.{nat_tests}
 use Rattle.std.proofs.{lemmas.Bool.lt-ltb, lemmas.Bool.cases_lt, Common.length, Common.inl}
-use Rattle.bpaf_line.specs.Situation.{Situation, open_count, with_scope, IsStretchFrom, count_below}
+use Rattle.bpaf_line.specs.Situation.{Situation, open_count, with_scope, IsStretchFrom}
+use Rattle.bpaf_base.specs.Count.{count_below}
 use Rattle.bpaf_line.specs.Situation.{is_open, IsNextOpen}
 use Rattle.bpaf_line.specs.Marks.{Changes, CanRedo, redone, undone, Fits}
 use Rattle.bpaf_line.specs.{declared.error.Error.Error, declared.mark.Mark.Mark, Messages.is_memory}
@@ -22,8 +23,9 @@ use Rattle.bpaf.specs.Remembering.{EndsAttempt, TriesAt, failed, found, no_memor
 use Rattle.bpaf.specs.Remembering.{failure_from, WithoutValue}
 use Rattle.bpaf.specs.declared.adjacent.failures.Remembered.{Remembered}
 use Rattle.bpaf.specs.declared.adjacent.attempts.AttemptEnd.{AttemptEnd}
-use Rattle.bpaf_line.proofs.BitSets.{count_below-cut, count_below-most, count_below-none}
-use Rattle.bpaf_line.proofs.{BitSets.count_below-split, Places.open_in_scope}
+use Rattle.bpaf_base.proofs.Count.{count_below-cut, count_below-most, count_below-none}
+use Rattle.bpaf_line.proofs.{Places.open_in_scope}
+use Rattle.bpaf_base.proofs.Count.{count_below-split}
 use Rattle.std.specs.Result.{IsErr, IsErrAnd}
 use Rattle.bpaf_doc.specs.Shape.{Part}
 use Rattle.bpaf.specs.declared.adjacent.attempts.AttemptEnd.TheVariants as ending
@@ -32,11 +34,11 @@ use Rattle.bpaf.specs.declared.adjacent.attempts.AttemptEnd.TheVariants as endin
 closes_same : (s t : Situation) → Closes s (with_scope t s.start s.end)
 closes_same s t p within outside = absurd (true≢false (sym within ∙ outside))
 
--- so is what is kept
+-- at a scope of its own what is kept is kept
 keeps_same_scope : (s t : Situation) → Keeps s t → Keeps s (with_scope t s.start s.end)
 keeps_same_scope s t k = keeps_scope s t s.start s.end k (λ p within. within)
 
--- and why it doesn't
+-- a number that isn't less doesn't test as less
 not_lt : (m n : ℕ) → n ≤ m → nat_lt m n ≡ false
 not_lt m n most = grind (arith, nat_tests)
 
@@ -180,7 +182,7 @@ given : {T : Type 0} {inner : Outcome T} {s : Situation} {place stop : ℕ}
 given (found v t probe tries) = (probe, tries)
 
 module _ {T : Type 0} {inner : Outcome T} {s : Situation} {first : Part} where
-  -- so it is at the start
+  -- at the start no place was tried in vain
   pub vain_begins : {from : ℕ} {best : Remembered} → from ≡ s.start → best.failed ≡ None
       → InVain T inner s first from best
   vain_begins at none = record {
@@ -219,7 +221,7 @@ module _ {T : Type 0} {inner : Outcome T} {s : Situation} {first : Part} where
       starts : IsGroupStart s (place_count first) from place
       starts = rw (same, wide) at start.0
 
-      -- and is tried from the group's situation
+      -- the place is tried from the group's situation
       tried_here : TriesAt T inner s place (place + place_count first) (failure_of s best) r
           (failure_of s after) t
       tried_here = rw (start.1, wide, same) at tried

@@ -89,7 +89,7 @@ module _ (P : Arg → Type 0) (known : Known) (word : List ℕ)
   of_word s (number_word is) = (whole, tt)
   of_word s (by_dash t none a) = each_by_dash t a
 
-  -- so all of them have it
+  -- all items that the word spells have it
   pub all_spelled : (items : List Arg) → Spells known word (Items items) → All P items
   all_spelled items spells = All-from_recursion P items (of_word (Items items) spells)
 
@@ -109,7 +109,7 @@ module _ (known : Known) (P : Arg → Type 0) where
       (each word (0, omega arith, refl) xs spelled.0) (of_parts words parts spelled.1
       (λ other among. each other (Contains-append_right (word ∷ []) words other among)))
 
-  -- so do all items
+  -- where each word's items have it, all items of the words do
   pub of_words : (words : List (List ℕ)) (items : List Arg) → SpellAll known words items
       → EachOf words → All P items
   of_words words items s each = subst (All P) (sym s.joined) (of_parts words s.parts s.spelled each)

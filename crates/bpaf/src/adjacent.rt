@@ -1,13 +1,11 @@
 //! Adjacent groups: products whose items stand next to one another.
+ghost use Rattle.bpaf_grammar.specs.Grammar.{own, stretch, describes_of};
 ghost use Rattle.bpaf_grammar.specs.Fast.{fast_product};
-ghost use Rattle.bpaf_grammar.specs.Grammar.{own, stretch};
-ghost use Rattle.bpaf_grammar.specs.Grammar.{describes_of};
 ghost use Rattle.std.specs.Prelude.{◌≡◌, ◌+◌, None, Some, Ok, Err, IfOk, IfErr};
 ghost use Rattle.bpaf_doc.specs.Shape.{part_of, shape_of};
-ghost use Rattle.bpaf_laws.specs.Product.{ProductDescribes};
-ghost use Rattle.bpaf_laws.specs.Adjacent.{GroupDescribes};
-ghost use Rattle.bpaf.specs.Remembering.{IsFirstOf, IsRefused};
+ghost use Rattle.bpaf_laws.specs.{Product.ProductDescribes, Adjacent.GroupDescribes};
 ghost use Rattle.bpaf.specs.declared.adjacent.AdjacentError.TheVariants.{Memory};
+ghost use Rattle.bpaf.specs.Remembering.{IsFirstOf, IsRefused};
 
 mod attempts;
 mod failures;
@@ -63,7 +61,8 @@ impl<'p, V, T, P: Fields<V>, M: Constructor<V, T>> Parser<T> for FailFast<'p, Pa
 /// What a parser shows, as items that stand side by side; refused only for want of memory.
 fn adjacent_meta<T, P: Parser<T>>(parser: &P, alloc: Global) -> Result<Meta, AllocError>
     requires { P.can_eval parser.now }
-    ensures { IfOk result (λ meta. GroupDescribes (describes_of (P.grammar parser.now)) (shape_of meta)) }
+    ensures { IfOk result (λ meta. GroupDescribes (describes_of (P.grammar parser.now))
+        (shape_of meta)) }
 {
     Ok(Meta::Adjacent(Box::new(alloc, parser.meta(alloc)?)?))
 }

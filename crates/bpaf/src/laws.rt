@@ -10,11 +10,13 @@ ghost use Rattle.bpaf_grammar.specs.Promises.{TakesOneStretch};
 use bpaf_core::Parser;
 use bpaf_line::{Error, State};
 
-/// Evaluates a parser, whatever its type: this is [`Parser::eval`], with all that is so of an answer.
+/// Evaluates a parser, whatever its type: this is [`Parser::eval`], with all that is so of an
+/// answer.
 ///
 /// Beside the outcome that its grammar allows, a value is read off the places that were newly taken
 /// (clause `reads`), a refusal keeps what was taken, the scope and the marks (`keeps`), and want of
-/// memory is caught nowhere and told as nothing else (`memory_is_never_caught`). By the kind of the
+/// memory is caught nowhere and told as nothing else (`memory_is_never_caught`), but inside a
+/// parser of a caller's own whose `spared` says less. By the kind of the
 /// parser more is so: a repeat is bounded (`repeat_is_bounded`), a default and None take nothing
 /// (`default_takes_nothing`), of two values of a choice the leftmost wins (`leftmost_wins`), a key
 /// comes before its variables (`key_before_environment`), a command leaves nothing in its scope

@@ -175,8 +175,9 @@ fn error_before<V, R: Fields<V>>(error: Error, rest: &R, state: &mut State) -> E
     }
 }
 
-/// What makes a value of the values of fields: a closure, as `construct!` has it ([`ByClosure`]), or
-/// a type of a program's own, so that the type of a product has a name. bpaf has a closure alone.
+/// What makes a value of the values of fields: a closure, as `construct!` has it ([`ByClosure`]),
+/// or a type of a program's own, so that the type of a product has a name. bpaf has a closure
+/// alone.
 ///
 /// ```text
 /// struct MakePoint {}

@@ -1,3 +1,4 @@
+pub mod Count
 pub mod InsideText
 pub mod Items
 pub mod Names

@@ -1,7 +1,8 @@
 //! The items of a line, and tests on one.
 ghost use Rattle.std.specs.Prelude.{◌≡◌, option_copied};
 ghost use Rattle.bpaf_base.specs.Items.{is_text_among, is_key_of, is_argument_key, is_attached};
-ghost use Rattle.bpaf_base.specs.Items.{is_key, is_positional, value_text, item_text, is_command_word};
+ghost use Rattle.bpaf_base.specs.Items.{is_key, is_positional, value_text, item_text};
+ghost use Rattle.bpaf_base.specs.Items.{is_command_word};
 
 use crate::text::Text;
 use std::fmt;

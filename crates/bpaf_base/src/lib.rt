@@ -8,6 +8,7 @@
 //! - The names of a key are data of contracts alone: its short names and its long ones
 //!   (specs/Names.antt).
 //! - [`Arg`] is one item of a line: a key, the value in a key's own word, or a word.
+//! - How many numbers of a set lie below one (specs/Count.antt) counts places and values.
 //! - What a test on an item computes, such as [`is_key_of`], stands in specs/Items.antt.
 //!
 //! Which items a word spells stands above, in `bpaf_words`, which hands on items and their tests.

@@ -1,25 +1,23 @@
 -- Counted keys: what two counts read are as many keys of each flag.
 use Rattle.std.proofs.Common.{◌≡◌, ℕ, ◌+◌, ◌<◌, ◌||◌, Bool, true, false, List, [], ◌∷◌, length}
 use Rattle.std.proofs.Common.{Result, Ok, Err, IfOk, refl, sym, ◌∙◌, subst, arith, ⊎_elim}
+use Rattle.bpaf_batteries.specs.Verbosity.{count_grammar, counts_grammar, KeysAreCounted, fewer_of}
 use Rattle.std.proofs.lemmas.Bool.{eq-eqb, eqb-true, false_from_ne_true, ne_eqb, or_cases}
 use Rattle.std.proofs.{lemmas.Option.slice_get_within, Common.true≢false}
 use Rattle.bpaf_grammar.specs.{Grammar.outcome_of, Grammar.reads_of, Laws.lawful_of}
-use Rattle.bpaf_batteries.specs.Verbosity.{count_grammar, counts_grammar}
-use Rattle.bpaf_laws.specs.Product.{BothReads}
-use Rattle.bpaf_text.specs.declared.params.ParseFlag.{ParseFlag}
-use Rattle.bpaf_base.specs.declared.arg.Arg.{Arg}
-use Rattle.bpaf_index.proofs.BitSets.{count_below-same, count_below-fewer, count_below-none}
-use Rattle.bpaf_line.specs.declared.error.Error.{Error}
-use Rattle.bpaf_line.specs.Situation.{Situation, Context, item_in, count_below}
-use Rattle.bpaf_laws.proofs.Keeping.{count_below-joined}
-use Rattle.bpaf_laws.specs.Laws.{newly}
-use Rattle.bpaf_laws.specs.Reading.{Share, HasItem, IsPlace, Joins}
-use Rattle.bpaf_laws.specs.Combinators.{EachReads, ListReads}
-use Rattle.bpaf_laws.specs.{Leaves.at_key, Leaves.nowhere}
-use Rattle.bpaf_batteries.proofs.Keys.{not_both}
-use Rattle.bpaf_batteries.specs.Verbosity.{KeysAreCounted, fewer_of, keys_in, more_of}
 use Rattle.bpaf_batteries.specs.Keys.{is_flag_key, MustStand, KeyReads}
-use Rattle.bpaf_batteries.specs.{declared.pair.KeyCounts.KeyCounts}
+use Rattle.bpaf_batteries.specs.Verbosity.{keys_in, more_of}
+use Rattle.bpaf_batteries.specs.declared.pair.KeyCounts.{KeyCounts}
+use Rattle.bpaf_laws.specs.Reading.{Share, HasItem, IsPlace, Joins}
+use Rattle.bpaf_laws.specs.{Combinators.EachReads, Combinators.ListReads, Product.BothReads}
+use Rattle.bpaf_laws.specs.{Leaves.at_key, Leaves.nowhere, Laws.newly}
+use Rattle.bpaf_text.specs.declared.params.ParseFlag.{ParseFlag}
+use Rattle.bpaf_base.specs.{declared.arg.Arg.Arg, Count.count_below}
+use Rattle.bpaf_base.proofs.Count.{count_below-same, count_below-fewer, count_below-none}
+use Rattle.bpaf_line.specs.Situation.{Situation, Context, item_in}
+use Rattle.bpaf_line.specs.declared.error.Error.{Error}
+use Rattle.bpaf_laws.proofs.Keeping.{count_below-joined}
+use Rattle.bpaf_batteries.proofs.Keys.{not_both}
 
 -- a share of so many places, each with a key of a flag
 record AreKeys {T : Type 0} (flag : ParseFlag T) (context : Context) (share : Share) (n : ℕ)
@@ -49,7 +47,8 @@ module _ {T : Type 0} (clones : T → T → Type 0) (flag : ParseFlag T) (stands
     keys = λ p there. subst (HasItem (is_flag_key flag) context)
         (sym (eqb-true p key (sym (is p) ∙ there))) has;
     number =
-        one_place share key (length context.line) is (item_within (is_flag_key flag) context key has);
+        one_place share key (length context.line) is
+        (item_within (is_flag_key flag) context key has);
   }
   one_key share v (nowhere none kept) = grind arith
 
@@ -76,14 +75,16 @@ module _ {T : Type 0} (clones : T → T → Type 0) (flag : ParseFlag T) (stands
       }
 
   -- each of some values reads a key
-  each_key : (share : Share) (values : List T) → EachReads (KeyReads clones flag) context share values
+  each_key : (share : Share) (values : List T)
+      → EachReads (KeyReads clones flag) context share values
       → AreKeys flag context share (length values)
   each_key share [] none = no_keys share none
   each_key share (v ∷ vs) read = subst (AreKeys flag context share) (omega arith)
       (more_keys read.0 read.1 share v (length vs) read.2 read.4 (each_key read.1 vs read.5))
 
-  -- so does each of all values
-  list_keys : (share : Share) (values : List T) → ListReads (KeyReads clones flag) context share values
+  -- values that each read a key read as many keys as they are
+  list_keys : (share : Share) (values : List T)
+      → ListReads (KeyReads clones flag) context share values
       → AreKeys flag context share (length values)
   list_keys share xs none = grind (arith, each_key, more_keys, no_keys)
 

@@ -30,7 +30,7 @@ module _ {T : Type 0} (clones : T → T → Type 0) (flag : ParseFlag T) (stands
   not_set : is_set s.context.env flag.named.envs ≡ true → ⊥
   not_set set = grind arith
 
-  -- nor is there an absent value
+  -- there is no absent value
   not_absent : (v : T) → IsSomeRelated clones flag.absent v → ⊥
   not_absent v value = subst (λ absent. IsSomeRelated clones absent v) stands.required value
 
@@ -44,7 +44,7 @@ module _ {T : Type 0} (clones : T → T → Type 0) (flag : ParseFlag T) (stands
       → HasNone (is_flag_key flag) s × (t ≡ s)
   key_missed m fails spared = grind arith
 
-  -- so a flag answers
+  -- a flag answers its key, or refuses where there is none
   pub key_ran : (r : Result T Error) → FlagOutcome clones flag.named flag.present flag.absent s r t
       → IsNotMemory r → KeyEval clones flag s r t
   key_ran r o spared = grind (arith, key_taken, key_missed, not_absent)

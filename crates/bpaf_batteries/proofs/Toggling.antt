@@ -64,7 +64,7 @@ module _ {T : Type 0} (clones : T → T → Type 0) (one other : ParseFlag T) wh
       taken = λ q. ap (λ taken. taken && not (is_taken s q)) (same q) ∙ newly_take s p there q;
     }
 
-    -- so it is with the one flag, where its answer is the chosen one
+    -- the one flag's key is taken, where its answer is the chosen one
     took_one : {x : T} → IsFirst (is_flag_key one) s p
         → ((r : ℕ) → r < p → is_match (is_flag_key other) s r ≡ false) → clones one.present x
         → IsChosen (Ok x) (take_place s p) v t → TookKey s v t
@@ -73,7 +73,7 @@ module _ {T : Type 0} (clones : T → T → Type 0) (one other : ParseFlag T) wh
         took (match_is_open (is_flag_key one) s p mine.matches) mine.first theirs
         (inl (mine.matches, rw same at value)) chosen.takes
 
-    -- and with the other one
+    -- the other flag's key is taken, where its answer is the chosen one
     took_other : {x : T} → IsFirst (is_flag_key other) s p
         → ((r : ℕ) → r < p → is_match (is_flag_key one) s r ≡ false) → clones other.present x
         → IsChosen (Ok x) (take_place s p) v t → TookKey s v t
@@ -148,7 +148,7 @@ module _ {T : Type 0} (clones : T → T → Type 0) (one other : ParseFlag T) wh
         one_ran : KeyEval clones one s ran.a ran.sa
         one_ran = key_ran clones one keys.one_stands s ran.sa ran.a ran.first_ran ran.first_spared
 
-        -- and the other one
+        -- what the other flag answered
         other_ran : KeyEval clones other s ran.b ran.sb
         other_ran = grind (arith, key_ran)
 
@@ -157,7 +157,7 @@ module _ {T : Type 0} (clones : T → T → Type 0) (one other : ParseFlag T) wh
         same_depth = ran_depth one s ran.a ran.sa one_ran
             ∙ sym (ran_depth other s ran.b ran.sb other_ran)
 
-        -- so the table is that of equal depths
+        -- the table is that of equal depths
         equal : EqualDepths s ran.a ran.sa ran.b ran.sb r t
         equal = chosen_at_equal s ran.a ran.sa ran.b ran.sb r t same_depth ran.chosen
 
@@ -297,7 +297,8 @@ module _ {T : Type 0} (clones : T → T → Type 0) (one other : ParseFlag T) wh
 
 -- the last toggle wins
 pub toggle_wins : {T : Type 0} (clones : T → T → Type 0) {one other : ParseFlag T} (catches : Bool)
-    {s t : Situation} (v : Option T) → outcome_of (toggle_grammar clones one other catches) s (Ok v) t
+    {s t : Situation} (v : Option T)
+    → outcome_of (toggle_grammar clones one other catches) s (Ok v) t
     → LastToggleWins clones one other s v
 toggle_wins clones {one} {other} catches v o keys =
     last_wins clones one other keys catches v o.1 o.2

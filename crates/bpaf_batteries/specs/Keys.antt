@@ -1,12 +1,11 @@
 -- Required flags as the batteries have them, of which only keys on the line count; and a level
 -- within bounds.
-use Rattle.std.specs.Prelude.{◌∷◌, ◌≡◌, ℕ, List, [], Bool, false, ◌&&◌, ◌||◌, None, ℤ, pos, ◌+ℤ◌, ◌-ℤ◌}
-use Rattle.std.specs.Int.{int_max, int_min}
+use Rattle.std.specs.Prelude.{◌∷◌, ◌≡◌, ℕ, List, [], Bool, false, ◌&&◌, ◌||◌, None, ℤ, pos, ◌+ℤ◌}
+use Rattle.std.specs.{Int.int_max, Int.int_min, Prelude.◌-ℤ◌}
 use Rattle.bpaf_doc.specs.Print.{text_pieces}
-use Rattle.bpaf_text.specs.Named.{key_named, with_help}
-use Rattle.bpaf_text.specs.declared.params.ParseFlag.{ParseFlag}
+use Rattle.bpaf_text.specs.{declared.params.ParseFlag.ParseFlag, Named.key_named, Named.with_help}
 use Rattle.bpaf_base.specs.{declared.arg.Arg.Arg, Items.is_key_of}
-use Rattle.bpaf_laws.specs.{Reading.Outcome, Reading.Readings}
+use Rattle.bpaf_laws.specs.Reading.{Outcome, Readings}
 use Rattle.bpaf_grammar.specs.Grammar.{Grammar, flag, outcome_of, reads_of}
 
 -- an item is a key of a flag

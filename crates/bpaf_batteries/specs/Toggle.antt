@@ -1,14 +1,11 @@
 -- A toggle, the last value of two keys that may each stand any number of times.
 use Rattle.std.specs.Prelude.{◌≡◌, ◌⊎◌, ℕ, Bool, true, Option, Some, None}
 use Rattle.bpaf_grammar.specs.Grammar.{Grammar, choice, closed, many, mapped, repeat}
-use Rattle.bpaf_batteries.specs.Keys.{key_grammar}
+use Rattle.bpaf_batteries.specs.Keys.{key_grammar, is_flag_key, is_either, AreKeysApart, KeyOutcome}
 use Rattle.bpaf_text.specs.declared.params.ParseFlag.{ParseFlag}
 use Rattle.bpaf_line.specs.{Taking.HasNone, Taking.is_match, Situation.Situation}
-use Rattle.bpaf_laws.specs.Combinators.{EndsIn}
-use Rattle.bpaf_laws.specs.Reading.{Outcome}
-use Rattle.bpaf_laws.specs.Choice.{ChoiceOutcome}
-use Rattle.bpaf_laws.specs.{Leaves.IsLast}
-use Rattle.bpaf_batteries.specs.Keys.{is_flag_key, is_either, AreKeysApart, KeyOutcome}
+use Rattle.bpaf_laws.specs.{Choice.ChoiceOutcome, Combinators.EndsIn, Reading.Outcome}
+use Rattle.bpaf_laws.specs.Leaves.{IsLast}
 
 -- a value of the key at a place: a clone of that of its flag
 abbrev pub GivesValue : {T : Type 0} → (T → T → Type 0) → ParseFlag T → ParseFlag T → Situation → ℕ
@@ -23,7 +20,7 @@ RightmostGives clones one other s (Some v) =
     (p : ℕ) × IsLast (is_either one other) s p × GivesValue clones one other s p v
 RightmostGives clones one other s None = HasNone (is_either one other) s
 
--- so it is for keys that must stand on the line, whose names are apart
+-- the rightmost key of either wins, for keys that must stand on the line, whose names are apart
 abbrev pub LastToggleWins : {T : Type 0} → (T → T → Type 0) → ParseFlag T → ParseFlag T → Situation
     → Option T → Type 0
 LastToggleWins clones one other s v = AreKeysApart one other → RightmostGives clones one other s v

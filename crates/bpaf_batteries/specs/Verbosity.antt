@@ -1,15 +1,13 @@
 -- A level from two counted keys.
-use Rattle.std.specs.Prelude.{◌≡◌, ◌&&◌, ℕ, ℤ, pos, false, ◌-ℤ◌, List, length, slice_get}
-use Rattle.std.specs.Option.{option_map_or}
-use Rattle.std.specs.Prelude.{codes, Some}
+use Rattle.std.specs.Prelude.{◌≡◌, ◌&&◌, ℕ, ℤ, pos, false, ◌-ℤ◌, List, length, slice_get, codes}
+use Rattle.bpaf_batteries.specs.Keys.{key_grammar, counted_key, is_flag_key, letter_q, letter_v}
+use Rattle.std.specs.{Option.option_map_or, Prelude.Some}
 use Rattle.bpaf_grammar.specs.Grammar.{Grammar, alone, both, count, product, repeat}
-use Rattle.bpaf_batteries.specs.Keys.{key_grammar}
+use Rattle.bpaf_batteries.specs.{declared.pair.KeyCounts.KeyCounts, Keys.IsLevelOf}
 use Rattle.bpaf_text.specs.declared.params.ParseFlag.{ParseFlag}
-use Rattle.bpaf_line.specs.Situation.{Situation, Context, item_in, count_below}
-use Rattle.bpaf_laws.specs.Laws.{newly}
-use Rattle.bpaf_laws.specs.{Reading.Share}
-use Rattle.bpaf_batteries.specs.Keys.{counted_key, is_flag_key, letter_q}
-use Rattle.bpaf_batteries.specs.{declared.pair.KeyCounts.KeyCounts, Keys.letter_v, Keys.IsLevelOf}
+use Rattle.bpaf_line.specs.Situation.{Situation, Context, item_in}
+use Rattle.bpaf_base.specs.Count.{count_below}
+use Rattle.bpaf_laws.specs.{Reading.Share, Laws.newly}
 
 -- the key for more
 abbrev pub more_of : KeyCounts → ParseFlag (Unit {0})
@@ -30,7 +28,8 @@ AreVerboseAndQuiet keys =
 -- how many places of a share have a key of a flag
 abbrev pub keys_in : {T : Type 0} → ParseFlag T → Context → Share → ℕ
 keys_in flag context share = count_below
-    (λ p. share p && option_map_or (is_flag_key flag) (item_in context p) false) (length context.line)
+    (λ p. share p && option_map_or (is_flag_key flag) (item_in context p) false)
+    (length context.line)
 
 -- how many keys of a flag were newly taken
 abbrev pub keys_taken : {T : Type 0} → ParseFlag T → Situation → Situation → ℕ

@@ -1,10 +1,8 @@
 //! How often the keys for more and for less are given.
+ghost use Rattle.bpaf_batteries.specs.Verbosity.{counts_grammar, AreVerboseAndQuiet};
 ghost use Rattle.bpaf_grammar.specs.Grammar.{outcome_of};
-ghost use Rattle.bpaf_batteries.specs.Verbosity.{counts_grammar};
+ghost use Rattle.bpaf_batteries.specs.{Verbosity.KeysAreCounted, Keys.counted_key};
 ghost use Rattle.std.specs.Prelude.{◌≡◌, ◌≤◌, length, IfOk, None};
-ghost use Rattle.bpaf_batteries.specs.Keys.{counted_key};
-ghost use Rattle.bpaf_batteries.specs.Verbosity.{AreVerboseAndQuiet};
-ghost use Rattle.bpaf_batteries.specs.Verbosity.{KeysAreCounted};
 
 use crate::pair::KeyCounts;
 use bpaf::parsers::{ParseCount, ParseFlag};

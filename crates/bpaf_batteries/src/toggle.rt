@@ -1,9 +1,8 @@
 //! Two flags of which the last one given counts.
 ghost use Rattle.bpaf_grammar.specs.Grammar.{outcome_of};
-ghost use Rattle.bpaf_batteries.specs.Toggle.{toggle_grammar};
+ghost use Rattle.bpaf_batteries.specs.Toggle.{toggle_grammar, LastToggleWins};
 ghost use Rattle.std.specs.Prelude.{◌≡◌, None, false, IfOk};
-ghost use Rattle.bpaf_batteries.specs.Toggle.{LastToggleWins};
-ghost use Rattle.bpaf_laws.specs.{Combinators.EndsIn};
+ghost use Rattle.bpaf_laws.specs.Combinators.{EndsIn};
 
 use bpaf::parsers::{ParseFlag, ParseMany, ParseOrElse};
 use bpaf::{Error, Meta, NamedArg, Parser, State};

@@ -1,11 +1,9 @@
 //! Levels of verbosity, as a number or as a member of a list.
+ghost use Rattle.bpaf_batteries.specs.Verbosity.{counts_grammar, AreVerboseAndQuiet, PicksItem};
 ghost use Rattle.bpaf_grammar.specs.Grammar.{closed, made, mapped, outcome_of};
-ghost use Rattle.bpaf_batteries.specs.Verbosity.{counts_grammar};
-ghost use Rattle.std.specs.Prelude.{◌≡◌, ◌<◌, ◌≤◌, ◌≤ℤ◌, ◌-ℤ◌, IfOk, length, pos, ℤ};
-ghost use Rattle.bpaf_batteries.specs.Verbosity.{AreVerboseAndQuiet};
-ghost use Rattle.bpaf_batteries.specs.Verbosity.{PicksItem};
 ghost use Rattle.bpaf_batteries.specs.Verbosity.{VerbosityCounts, VerbosityPicks};
 ghost use Rattle.bpaf_batteries.specs.Keys.{IsLevelOf};
+ghost use Rattle.std.specs.Prelude.{◌≡◌, ◌<◌, ◌≤◌, ◌≤ℤ◌, ◌-ℤ◌, IfOk, length, pos, ℤ};
 
 use crate::counts::verbose_and_quiet;
 use crate::pair::KeyCounts;
@@ -70,7 +68,8 @@ impl Parser<isize> for VerboseQuiet {
     ghost can_eval = { λ p. Unit {0} };
 
     ghost grammar = { λ p.
-        closed (mapped (IsLevelOf p.offset p.min p.max)) (counts_grammar ⟦<() as Clone>⟧.is_clone p.counts) };
+        closed (mapped (IsLevelOf p.offset p.min p.max))
+        (counts_grammar ⟦<() as Clone>⟧.is_clone p.counts) };
 
     fn eval(&self, state: &mut State) -> Result<isize, Error>
         ensures outcome { outcome_of (closed (mapped (IsLevelOf self.now.offset self.now.min

@@ -1,24 +1,22 @@
 -- How the answers of a command and of the attempts of an adjacent one are put together, what they
 -- leave, and that a failure which a command hands on is that of its own run inside.
 use Rattle.std.proofs.Common.{◌≡◌, ℕ, Bool, true, false, Result, Ok, Err, ⊎_elim, sym, true≢false}
+use Rattle.bpaf_grammar.specs.Command.{ended, missing, no_memory, value, EitherCommandOutcome}
+use Rattle.bpaf_grammar.specs.Command.{Enters, RunsInside, StaysOutside, counted, failed, no_path}
+use Rattle.bpaf_grammar.specs.Command.{unnamed, Attempts, GivesBack, IsTold, Retry, first_fails}
 use Rattle.std.proofs.Common.{◌≤◌, length, refl, ap, ◌∙◌}
 use Rattle.std.specs.Result.{IsErr, IsErrAnd}
 use Rattle.bpaf_doc.specs.Shape.{Part}
-use Rattle.bpaf_line.specs.declared.failure.ParseFailure.{ParseFailure}
-use Rattle.bpaf_line.specs.Situation.{Situation, IsStretchFrom, with_scope}
 use Rattle.bpaf_line.specs.Marks.{Fits, KeepsMarks, redone, undone, Changes}
-use Rattle.bpaf_line.specs.{declared.error.Error.Error, declared.mark.Mark.Mark, Messages.is_memory}
-use Rattle.bpaf_laws.specs.Adjacent.{IsFirstLeft}
-use Rattle.bpaf_laws.specs.Command.{Called, inside}
-use Rattle.bpaf_laws.specs.{Reading.Outcome, Reading.Readings, Laws.Lawful}
-use Rattle.bpaf_grammar.specs.Command.{ended, missing, no_memory, value, EitherCommandOutcome, Enters}
-use Rattle.bpaf_grammar.specs.Command.{RunsInside, StaysOutside, counted, failed, no_path, unnamed}
-use Rattle.bpaf_grammar.specs.Command.{Attempts, GivesBack, IsTold, Retry, first_fails, second_fails}
-use Rattle.bpaf_grammar.specs.Command.{wants_memory}
-use Rattle.bpaf_grammar.specs.AdjacentLaws.{attempts_counted}
-use Rattle.bpaf_grammar.specs.CommandLaws.{runs_keeps}
-use Rattle.bpaf_grammar.specs.{Ending.Ending, Ending.LawfulEnding, Run.Runs}
-use Rattle.bpaf_parts.specs.Failures.{end_message}
+use Rattle.bpaf_line.specs.Situation.{Situation, IsStretchFrom, with_scope}
+use Rattle.bpaf_line.specs.{declared.failure.ParseFailure.ParseFailure, declared.error.Error.Error}
+use Rattle.bpaf_line.specs.{declared.mark.Mark.Mark, Messages.is_memory}
+use Rattle.bpaf_laws.specs.{Reading.Outcome, Reading.Readings, Command.Called, Command.inside}
+use Rattle.bpaf_laws.specs.{Adjacent.IsFirstLeft, Laws.Lawful}
+use Rattle.bpaf_grammar.specs.{Command.second_fails, Command.retry_memory, CommandLaws.runs_keeps}
+use Rattle.bpaf_grammar.specs.{Ending.Ending, Ending.LawfulEnding, AdjacentLaws.attempts_counted}
+use Rattle.bpaf_line.specs.Failure.{end_message}
+use Rattle.bpaf_grammar.specs.Run.{Runs}
 use Rattle.bpaf_line.proofs.Marks.{keeps_marks_refl, keeps_marks_scope, keeps_marks_trans}
 use Rattle.bpaf_line.specs.declared.failure.ParseFailure.TheVariants as failure
 
@@ -38,7 +36,7 @@ module _ {T : Type 0} (inner : Outcome T) (ending : Ending) (called : Called)
   not_inside false {e} outside = ⊎_elim (λ lacks. rw lacks.2 (missing e lacks.0 lacks.1))
       (λ wants. rw wants.3 (no_memory e wants.0 wants.1 wants.2)) outside
 
-  -- so it does where that refusal is handed on
+  -- where the refusal of one that doesn't get inside is handed on, the command refuses
   pub refused_inside : (adjacent : Bool) {e : Error} (r : Result T Error) {t : Situation}
       → IsErr r × IsErrAnd r (λ given. given ≡ e) → StaysOutside called shows s e t
       → EitherCommandOutcome adjacent T inner ending called shows s r t
@@ -66,13 +64,14 @@ pub memory_end : (f : ParseFailure) → is_memory (end_message f) ≡ true → f
 memory_end failure.Memory is = refl
 memory_end f is = absurd (true≢false (sym is))
 
-module _ {mark : Mark} (t : Situation) {m u : Situation} (back : m ≡ undone mark t) (fits : Fits mark m)
+module _ {mark : Mark} (t : Situation) {m u : Situation} (back : m ≡ undone mark t)
+    (fits : Fits mark m)
     (there : undone mark m ≡ m) (keeps : KeepsMarks m u) where
   -- what began at a mark goes back to it
   pub back_again : undone mark u ≡ undone mark t
   back_again = keeps.same mark fits ∙ (there ∙ back)
 
-  -- and lead to where they led
+  -- steps from a mark on lead to where they led
   pub led_again : (steps : Changes) → redone steps (undone mark t) ≡ t
       → redone steps (undone mark u) ≡ t
   led_again steps led = ap (redone steps) back_again ∙ led
@@ -103,9 +102,9 @@ module _ {T : Type 0} {inner : Outcome T} {ending : Ending} {s : Situation} {fro
   -- memory is wanted, and all is as before the first attempt
   pub memory_wanted : {g : ParseFailure} {u : Situation} → g ≡ failure.Memory → u ≡ s
       → Retry T inner ending s from end f t (Err g) u
-  memory_wanted is back = rw (is, back) wants_memory
+  memory_wanted is back = rw (is, back) retry_memory
 
-  -- so it is where a call refused that wants memory alone
+  -- memory is wanted, and all is as before, where a call refused that wants memory alone
   pub memory_refused : {r : Result T ParseFailure} {u : Situation}
       → IsErr r × IsErrAnd r (λ g. g ≡ failure.Memory) → u ≡ s
       → Retry T inner ending s from end f t r u

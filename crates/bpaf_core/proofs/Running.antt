@@ -2,25 +2,23 @@
 -- refusal is one of the twelve.
 use Rattle.std.proofs.Common.{◌≡◌, ◌==◌, ℕ, Bool, true, List, [], ap, Result, Ok, Err, ⊎_elim, refl}
 use Rattle.std.proofs.Common.{IsErrAnd, arith, false, not, ◌&&◌, ◌<◌, length, IfOk, true≢false}
-use Rattle.std.proofs.lemmas.Bool.Decides.{nat_tests}
-use Rattle.std.proofs.Common.{nat_lt, Option}
 use Rattle.bpaf_line.specs.Situation.{Situation, Context, beginning, is_taken, is_open, in_scope}
-use Rattle.bpaf_line.specs.Situation.{is_dealt_place, open_count}
-use Rattle.bpaf_line.specs.declared.failure.ParseFailure.{ParseFailure}
-use Rattle.bpaf_line.specs.declared.error.Message.TheVariants.{Memory, Ambiguity}
-use Rattle.bpaf_line.specs.{Messages.is_memory, declared.error.Message.Message}
-use Rattle.bpaf_line.specs.{Rendering.Renders}
-use Rattle.bpaf_keys.specs.{Info.RunInfo}
-use Rattle.bpaf_doc.specs.Shape.{Shape, parts, shape_of}
-use Rattle.bpaf_doc.specs.{declared.doc.Piece.Piece, declared.meta.Meta.Meta}
-use Rattle.bpaf_laws.specs.Laws.{ShowsNames, shorts_among, Lawful, Keeps, Closes, newly}
-use Rattle.bpaf_laws.specs.Combinators.{DefaultDescribes}
-use Rattle.bpaf_laws.specs.{Reading.Outcome, Reading.Readings}
-use Rattle.bpaf_words.specs.Line.{Known, ShortNames, known_at}
-use Rattle.bpaf_words.specs.declared.line.LineFault.{LineFault}
-use Rattle.bpaf_words.specs.{declared.line.Line.Line, Splitting.ReadsLine, Arguments.Given}
 use Rattle.bpaf_grammar.specs.Run.{Runs, RunsWords, ran, no_line, no_memory, known_names, Starts}
 use Rattle.bpaf_grammar.specs.Ending.{EndsRun, TellsNoLine, EndsRefused, PassesOrTells, ShowsHelp}
+use Rattle.std.proofs.{lemmas.Bool.Decides.nat_tests, Common.nat_lt, Common.Option}
+use Rattle.bpaf_line.specs.declared.error.Message.TheVariants.{Memory, Ambiguity}
+use Rattle.bpaf_line.specs.{Situation.is_dealt_place, Situation.open_count, Messages.is_memory}
+use Rattle.bpaf_line.specs.declared.failure.ParseFailure.{ParseFailure}
+use Rattle.bpaf_line.specs.declared.error.Message.{Message}
+use Rattle.bpaf_messages.specs.Rendering.{Renders}
+use Rattle.bpaf_keys.specs.Info.{RunInfo}
+use Rattle.bpaf_doc.specs.{Shape.Shape, Shape.parts, Shape.shape_of, declared.doc.Piece.Piece}
+use Rattle.bpaf_doc.specs.declared.meta.Meta.{Meta}
+use Rattle.bpaf_laws.specs.Laws.{ShowsNames, shorts_among, Lawful, Keeps, Closes, newly}
+use Rattle.bpaf_laws.specs.{Reading.Outcome, Reading.Readings, Combinators.DefaultDescribes}
+use Rattle.bpaf_words.specs.{Line.Known, Line.ShortNames, Line.known_at, declared.line.Line.Line}
+use Rattle.bpaf_words.specs.{declared.line.LineFault.LineFault, Splitting.ReadsLine}
+use Rattle.bpaf_words.specs.Arguments.{Given}
 use Rattle.bpaf_grammar.specs.Ending.{is_shown, memory, passed_on, refused, usage}
 use Rattle.bpaf_grammar.specs.Run.{value, IsDealtOut}
 use mathlib.Core.Path.{fun_ext}
@@ -145,7 +143,8 @@ module _ {T : Type 0} {inner : Outcome T} {reads : Readings T} {describes : Shap
       → IfOk r (λ v. IsDealtOut T reads known given v)
   if_dealt {r = Ok v} (ran context r t is_context run) = dealt_from run
     where
-      dealt_from : {t : Situation} → Runs T inner (EndsRun describes info) (beginning context) (Ok v) t
+      dealt_from : {t : Situation} → Runs T inner (EndsRun describes info) (beginning context)
+          (Ok v) t
           → IsDealtOut T reads known given v
       dealt_from (value w left answered none) =
           let read = law.ok (beginning context) left w answered in

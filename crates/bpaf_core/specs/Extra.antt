@@ -1,11 +1,10 @@
 -- What a run may be asked for beside its value, as a parser of its own.
-use Rattle.std.specs.Prelude.{◌++◌, ◌≡◌}
-use Rattle.std.specs.{Option.option_map_or, Result.IfErr}
+use Rattle.std.specs.{Prelude.◌++◌, Prelude.◌≡◌, Option.option_map_or, Result.IfErr}
 use Rattle.bpaf_keys.specs.Info.{ExtraOutcome, ExtraReads, RunInfo, extra_shape}
 use Rattle.bpaf_keys.specs.declared.info.ExtraParams.{ExtraParams}
 use Rattle.bpaf_keys.proofs.Looking.{extra_lawful, extra_shows}
 use Rattle.bpaf_laws.specs.Laws.{of_flags}
-use Rattle.bpaf_grammar.specs.{Own.Own, Run.AsksForNeither}
+use Rattle.bpaf_grammar.specs.{Run.AsksForNeither, Own.Own}
 use Rattle.bpaf_grammar.proofs.Sparing.{neither_asked}
 
 -- the look for help and the version

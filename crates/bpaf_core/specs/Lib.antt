@@ -1,8 +1,7 @@
 pub use Rattle.bpaf_messages.specs.Leftover
-pub use Rattle.bpaf_line.specs.Rendering
-pub use Rattle.bpaf_parts.specs.Branches
+pub use Rattle.bpaf_messages.specs.Rendering
 pub use Rattle.bpaf_keys.specs.Info
-pub use Rattle.bpaf_parts.specs.Failures
+pub use Rattle.bpaf_line.specs.Failure
 pub use Rattle.bpaf_keys.specs.declared.info.ExtraParams
 pub use Rattle.bpaf_grammar.specs.Grammar
 pub use Rattle.bpaf_grammar.specs.Laws

@@ -1,14 +1,14 @@
 //! Runs over the items behind a place without a gap: the attempts of an adjacent command.
-ghost use Rattle.bpaf_grammar.specs.Grammar.{outcome_of, describes_of};
-ghost use Rattle.std.specs.Prelude.{◌≡◌, ◌<◌, ◌≤◌, length};
-ghost use Rattle.bpaf_line.specs.Marks.{Fits, KeepsMarks, undone};
-ghost use Rattle.bpaf_grammar.specs.Ending.{EndsRun};
 ghost use Rattle.bpaf_grammar.specs.Command.{AdjacentRuns, Attempt, Attempts, Retry};
+ghost use Rattle.bpaf_grammar.specs.{Grammar.outcome_of, Grammar.describes_of, Ending.EndsRun};
+ghost use Rattle.std.specs.Prelude.{◌≡◌, ◌<◌, ◌≤◌, length, MatchOption};
+ghost use Rattle.bpaf_line.specs.Marks.{Fits, KeepsMarks, undone};
+ghost use Rattle.bpaf_laws.specs.Adjacent.{AllTaken, IsFirstLeft};
 
 use crate::parser::Parser;
 use crate::run::Run;
-use bpaf_line::{Mark, ParseFailure, State, Steps};
-use bpaf_parts::{first_failure, first_left, wants_memory};
+use bpaf_choice::first_failure;
+use bpaf_line::{Mark, ParseFailure, State};
 
 impl<T: Drop, P: Parser<T>> Run<'_, T, P> {
     /// A run over the places from one up to another.
@@ -45,7 +45,7 @@ impl<T: Drop, P: Parser<T>> Run<'_, T, P> {
             (undone mark state.old) from end failure
             state.old result state.new }
     {
-        if wants_memory(&failure) {
+        if failure.is_memory() {
             state.undo(mark);
             return Err(failure);
         }
@@ -96,4 +96,17 @@ impl<T: Drop, P: Parser<T>> Run<'_, T, P> {
             Err(failure) => Err(failure),
         }
     }
+}
+
+/// The first of the places from one up to another that is present, in scope or not. It takes no
+/// memory.
+fn first_left(state: &State, from: usize, end: usize) -> Option<usize>
+    ensures { MatchOption result (AllTaken state.now from end) (IsFirstLeft state.now from end) }
+{
+    for place in from..end {
+        if matches!(state.present(place), Some(true)) {
+            return Some(place);
+        }
+    }
+    None
 }

@@ -3,9 +3,8 @@ ghost use Rattle.bpaf_grammar.specs.Grammar.{argument};
 
 use crate::parser::Parser;
 use bpaf_doc::Meta;
-use bpaf_keys::take_argument;
+use bpaf_keys::{read_text, take_argument};
 use bpaf_line::{Error, State};
-use bpaf_parts::read_text;
 use bpaf_text::{FromText, ParseArgument};
 use std::alloc::{AllocError, Global};
 

@@ -1,13 +1,12 @@
 //! A choice of two parsers.
-ghost use Rattle.bpaf_grammar.specs.Grammar.{choice};
-ghost use Rattle.bpaf_grammar.specs.Grammar.{outcome_of};
+ghost use Rattle.bpaf_grammar.specs.Grammar.{choice, outcome_of};
 ghost use Rattle.bpaf_laws.specs.Choice.{ChoiceOutcome};
-ghost use Rattle.bpaf_parts.specs.Branches.{HasAnswered, IsStart, start_of};
+ghost use Rattle.bpaf_choice.specs.Branches.{HasAnswered, IsStart, start_of};
 
 use crate::parser::Parser;
+use bpaf_choice::{Branch, Start, is_memory_answer, or_meta, this_or_that};
 use bpaf_doc::Meta;
 use bpaf_line::{Error, State};
-use bpaf_parts::{Branch, Start, is_want, or_meta, this_or_that};
 use std::alloc::{AllocError, Global};
 
 /// The answer of a choice of which the first branch answered this, from a start that lies behind
@@ -26,7 +25,7 @@ pub fn or_parser<T: Drop, P: Parser<T>>(
     ensures { ChoiceOutcome (HasAnswered (start_of start state.old) first state.old)
         (outcome_of (P.grammar parser.now)) (start_of start state.old) result state.new }
 {
-    if is_want(&first) {
+    if is_memory_answer(&first) {
         state.undo(start.mark);
         return first;
     }
@@ -38,7 +37,7 @@ pub fn or_parser<T: Drop, P: Parser<T>>(
         }
     };
     let second = parser.eval(state);
-    if is_want(&second) {
+    if is_memory_answer(&second) {
         drop(first);
         state.undo(start.mark);
         return second;

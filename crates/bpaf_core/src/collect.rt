@@ -1,30 +1,14 @@
 //! All values of a parser, in a collection of the caller's choice.
 ghost use Rattle.bpaf_grammar.specs.Grammar.{repeat, collect};
-ghost use Rattle.bpaf_grammar.specs.Grammar.{outcome_of};
 ghost use Rattle.std.specs.Prelude.{◌≡◌, true};
-ghost use Rattle.bpaf_laws.specs.Combinators.{CollectOutcome};
 
 use crate::parser::Parser;
 use crate::repeat::values_until_stop;
 use bpaf_doc::Meta;
 use bpaf_line::{Error, State};
-use bpaf_parts::many_meta;
 use bpaf_text::FromList;
 use std::alloc::{AllocError, Global};
 use std::marker::PhantomData;
-
-/// The list of the values of turns, until one stops; refused also where the list wants memory.
-fn collect_values<T: Drop, C: FromList<T>, P: Parser<T>>(
-    parser: &P,
-    state: &mut State,
-    catches: bool,
-) -> Result<C, Error>
-    requires { P.can_eval parser.now }
-    ensures { CollectOutcome (outcome_of (P.grammar parser.now)) catches C.fills state.old result state.new }
-{
-    let values = values_until_stop(parser, state, catches)?;
-    Ok(C::from_list(values)?)
-}
 
 /// All inner values in a collection (bpaf's `ParseCollect`, in `structs.rs`).
 #[derive(Drop)]
@@ -59,10 +43,11 @@ impl<T: Drop, C: FromList<T> + Drop, P: Parser<T>> Parser<C> for ParseCollect<P,
     ghost grammar = { λ p. repeat (collect p.catch C.fills) (P.grammar p.inner) };
 
     fn eval(&self, state: &mut State) -> Result<C, Error> {
-        collect_values(&self.inner, state, self.catch)
+        let values = values_until_stop(&self.inner, state, self.catch)?;
+        Ok(C::from_list(values)?)
     }
 
     fn meta(&self, alloc: Global) -> Result<Meta, AllocError> {
-        many_meta(alloc, self.inner.meta(alloc)?)
+        self.inner.meta(alloc)?.many(alloc)
     }
 }

@@ -1,15 +1,13 @@
 //! How many values a parser gives, and the last of them.
-ghost use Rattle.bpaf_grammar.specs.Grammar.{repeat, count, last};
-ghost use Rattle.bpaf_grammar.specs.Grammar.{outcome_of};
-ghost use Rattle.bpaf_laws.specs.Combinators.{CountOutcome, LastOutcome};
-ghost use Rattle.bpaf_laws.specs.Combinators.{EndsIn, UntilFault, UntilRest};
+ghost use Rattle.bpaf_laws.specs.Combinators.{CountOutcome, LastOutcome, EndsIn, UntilFault};
+ghost use Rattle.bpaf_grammar.specs.Grammar.{repeat, count, last, outcome_of};
+ghost use Rattle.bpaf_laws.specs.Combinators.{UntilRest};
 ghost use Rattle.std.specs.Prelude.{◌≡◌, IfErr, IfOk, List, length};
 
 use crate::optional::parse_option;
 use crate::parser::Parser;
 use bpaf_doc::Meta;
 use bpaf_line::{Error, State};
-use bpaf_parts::{many_meta, some_meta};
 use std::alloc::{AllocError, Global};
 use std::marker::PhantomData;
 
@@ -26,7 +24,8 @@ fn count_values<T: Drop, P: Parser<T>>(parser: &P, state: &mut State) -> Result<
     ensures ok { IfOk result (λ counted. (values : List T)
         × UntilRest (outcome_of (P.grammar parser.now)) state.old values state.new
         × (counted.count ≡ length values) × EndsIn values counted.last) }
-    ensures err { IfErr result (λ e. UntilFault (outcome_of (P.grammar parser.now)) state.old e state.new) }
+    ensures err { IfErr result (λ e. UntilFault (outcome_of (P.grammar parser.now)) state.old e
+        state.new) }
 {
     let present_at_start = state.len();
     let mut left = present_at_start;
@@ -41,14 +40,6 @@ fn count_values<T: Drop, P: Parser<T>>(parser: &P, state: &mut State) -> Result<
         left = state.len();
     }
     Ok(Counted { count, last })
-}
-
-/// How many of these values there are.
-fn number_of_values<T: Drop, P: Parser<T>>(parser: &P, state: &mut State) -> Result<usize, Error>
-    requires { P.can_eval parser.now }
-    ensures { CountOutcome (outcome_of (P.grammar parser.now)) state.old result state.new }
-{
-    Ok(count_values(parser, state)?.count)
 }
 
 /// The last of these values; without one what the parser answers once more.
@@ -77,11 +68,11 @@ impl<T: Drop, P: Parser<T>> Parser<usize> for ParseCount<P, T> {
     ghost grammar = { λ p. repeat count (P.grammar p.inner) };
 
     fn eval(&self, state: &mut State) -> Result<usize, Error> {
-        number_of_values(&self.inner, state)
+        Ok(count_values(&self.inner, state)?.count)
     }
 
     fn meta(&self, alloc: Global) -> Result<Meta, AllocError> {
-        many_meta(alloc, self.inner.meta(alloc)?)
+        self.inner.meta(alloc)?.many(alloc)
     }
 }
 
@@ -104,6 +95,6 @@ impl<T: Drop, P: Parser<T>> Parser<T> for ParseLast<P> {
     }
 
     fn meta(&self, alloc: Global) -> Result<Meta, AllocError> {
-        some_meta(alloc, self.inner.meta(alloc)?)
+        self.inner.meta(alloc)?.some(alloc)
     }
 }

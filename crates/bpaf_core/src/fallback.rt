@@ -1,14 +1,13 @@
 //! A value that stands in where a parser gives none.
-ghost use Rattle.bpaf_grammar.specs.Grammar.{fallback, cloned, answered};
-ghost use Rattle.bpaf_grammar.specs.Grammar.{outcome_of};
+ghost use Rattle.bpaf_doc.specs.Shape.{shape_of};
+ghost use Rattle.bpaf_laws.specs.Combinators.{DefaultDescribes, AttemptOutcome, GivesAnswer, ShowsAnswer};
+ghost use Rattle.bpaf_grammar.specs.Grammar.{fallback, cloned, answered, outcome_of};
 ghost use Rattle.std.specs.{Prelude.◌≡◌, Prelude.IfOk, Prelude.Ok, Fn.FnReturnsAt};
-ghost use Rattle.bpaf_laws.specs.Combinators.{AttemptOutcome, ShowsAnswer, ShowsDefault};
-ghost use Rattle.bpaf_laws.specs.Combinators.{ShowsFormatted};
+ghost use Rattle.bpaf_laws.specs.Combinators.{ShowsDefault, ShowsFormatted};
 
 use crate::parser::Parser;
-use bpaf_doc::{Doc, Meta};
-use bpaf_line::{Error, State};
-use bpaf_parts::{debugged, default_meta, displayed, formatted, given_by};
+use bpaf_doc::{Doc, Meta, Text, debugged, displayed, formatted};
+use bpaf_line::{Error, Message, State};
 use std::alloc::{AllocError, Global};
 use std::fmt::{Debug, Display};
 use std::marker::PhantomData;
@@ -31,6 +30,19 @@ fn attempt<T, P: Parser<T>>(parser: &P, state: &mut State) -> Result<Option<T>, 
                 Err(error)
             }
         }
+    }
+}
+
+/// What may be left out, with its default behind it, where one is shown; refused only for want of
+/// memory.
+fn default_meta(alloc: Global, meta: Meta, shown: &Option<Doc>) -> Result<Meta, AllocError>
+    ensures { IfOk result (λ all.
+        DefaultDescribes (λ shape. shape ≡ shape_of meta) shown.now (shape_of all)) }
+{
+    let optional = meta.optional(alloc)?;
+    match shown {
+        Some(shown) => Ok(Meta::Suffix(Box::new(alloc, optional)?, shown.copy()?)),
+        None => Ok(optional),
     }
 }
 
@@ -113,6 +125,26 @@ impl<T: Clone, P: Parser<T>> Parser<T> for ParseFallback<P, T> {
 
     fn meta(&self, alloc: Global) -> Result<Meta, AllocError> {
         default_meta(alloc, self.inner.meta(alloc)?, &self.shown)
+    }
+}
+
+/// A closure's value. Its fault is refused with PureFailed, in full, or with want of memory, where
+/// its text wants it.
+///
+/// It is public for the crates of this repository, not for callers.
+pub fn given_by<T, E: Display + Drop, F: Fn() -> Result<T, E>>(
+    alloc: Global,
+    f: &F,
+) -> Result<T, Error>
+    requires { F.IsAlwaysCallable f.now }
+    ensures { GivesAnswer (λ r. F.post f.now r) E.output result }
+{
+    match f() {
+        Ok(value) => Ok(value),
+        Err(fault) => {
+            let text = Text::from(fault.to_string(alloc)?);
+            Err(Error(Message::PureFailed(text)))
+        }
     }
 }
 

@@ -1,12 +1,24 @@
 //! Hidden parsers.
 ghost use Rattle.bpaf_grammar.specs.Grammar.{dressed, hide};
 ghost use Rattle.bpaf_doc.specs.Shape.{Skip};
+ghost use Rattle.bpaf_laws.specs.Combinators.{hidden};
+ghost use Rattle.std.specs.Prelude.{◌≡◌};
 
 use crate::parser::Parser;
 use bpaf_doc::Meta;
-use bpaf_line::{Error, State};
-use bpaf_parts::hide;
+use bpaf_line::{Error, Message, MissingItems, State};
 use std::alloc::{AllocError, Global};
+
+/// The refusal, in which no missing item is named. It takes no memory.
+fn hide(alloc: Global, message: Message) -> Message
+    ensures { result ≡ hidden message }
+{
+    if matches!(message, Message::Missing(..)) {
+        drop(message);
+        return Message::Missing(MissingItems::none(alloc));
+    }
+    message
+}
 
 /// A hidden parser (bpaf's `ParseHide`, in `structs.rs`).
 #[derive(Drop)]

@@ -1,8 +1,8 @@
 //! Parsers: what reads a value off a line, and a run over a whole line.
 //!
-//! It stands on `bpaf_grammar`, on `bpaf_keys`, whose [`Info`] and [`CommandNames`] it hands on, on
-//! `bpaf_parts`, whose [`read_text`] it hands on, and on the crates below these. For the layers
-//! above:
+//! It stands on `bpaf_grammar`, on `bpaf_keys`, whose [`Info`] and [`CommandNames`] it hands on, and
+//! on the crates below these. The trait's methods make the combinators and the options, so one crate
+//! has all of them. For the layers above:
 //!
 //! - [`Parser`] is the trait of every parser. An implementation says of what it is made, by its
 //!   ghost member `grammar`, and its `eval` and `meta` answer and show what that tells. All else
@@ -10,15 +10,16 @@
 //!   taken places with the value are a reading, which short names are shown (`bpaf_grammar`).
 //! - [`bpaf_text::ParseFlag`] and [`bpaf_text::ParseArgument`] are the first parsers. Where their
 //!   key isn't on the line, the first of their names in the environment that is set counts.
+//!   [`read_text`] is the value of a taken text.
 //! - [`ParseMap`], [`ParseWith`] and [`ParseGuard`] change or check a value; [`ParseOptional`],
-//!   [`ParseFallback`] and [`ParseFallbackWith`] stand in for one that isn't there, and a value that
-//!   stands in takes no item.
+//!   [`ParseFallback`] and [`ParseFallbackWith`] stand in for one that isn't there, and a value
+//!   that stands in takes no item.
 //! - [`ParseMany`], [`ParseSome`], [`ParseCollect`], [`ParseCount`] and [`ParseLast`] take turns of
 //!   one parser until one stops; [`bpaf_text::FromList`] is what a list of values fills. Each turn
 //!   but the first takes an item, so there are no more values than items present at the start and
 //!   one.
 //! - [`ParseOrElse`] is one of two parsers, both evaluated from the same state: the table of
-//!   [`bpaf_parts::this_or_that`] decides whose answer counts. [`or_parser`], [`Start`] and
+//!   [`bpaf_choice::this_or_that`] decides whose answer counts. [`or_parser`], [`Start`] and
 //!   [`or_meta`] are for the crates of this repository, not for callers. The branch that took the
 //!   leftmost place taken by only one of them wins.
 //! - [`ParseHide`] names no missing item in its refusals; [`ParseUsage`], [`ParseGroupHelp`] and
@@ -56,15 +57,15 @@ mod run;
 mod transform;
 mod usage;
 
-pub use bpaf_keys::{CommandNames, ExtraParams, Info};
+pub use bpaf_choice::{Start, or_meta};
+pub use bpaf_keys::{CommandNames, ExtraParams, Info, read_text, value_or_refusal};
 pub use bpaf_messages::{earlier_key, leftover, render};
 pub use bpaf_pages::{HelpTexts, render_help, usage_of};
-pub use bpaf_parts::{Start, given_by, or_meta, read_text, value_or_refusal};
 pub use choice::{ParseOrElse, or_parser};
 pub use collect::ParseCollect;
 pub use commands::{ParseCommand, command};
 pub use count::{ParseCount, ParseLast};
-pub use fallback::{ParseFallback, ParseFallbackWith};
+pub use fallback::{ParseFallback, ParseFallbackWith, given_by};
 pub use hide::ParseHide;
 pub use optional::ParseOptional;
 pub use options::OptionParser;

@@ -1,14 +1,26 @@
 //! A value that may be missing.
-ghost use Rattle.bpaf_grammar.specs.Grammar.{optional};
-ghost use Rattle.bpaf_grammar.specs.Grammar.{outcome_of};
+ghost use Rattle.bpaf_grammar.specs.Grammar.{optional, outcome_of};
 ghost use Rattle.std.specs.Prelude.{◌≡◌, true};
-ghost use Rattle.bpaf_laws.specs.Combinators.{TurnOutcome};
+ghost use Rattle.bpaf_laws.specs.Combinators.{TurnOutcome, stops_step};
 
 use crate::parser::Parser;
 use bpaf_doc::Meta;
-use bpaf_line::{Error, State};
-use bpaf_parts::{optional_meta, stops_step};
+use bpaf_line::{Error, Message, State};
 use std::alloc::{AllocError, Global};
+
+/// Whether a step stops at an error; `untouched` tells that as many items are present as before it.
+/// It takes no memory.
+fn stops_step(catches: bool, message: &Message, untouched: bool) -> bool
+    ensures { result ≡ stops_step catches message.now untouched }
+{
+    if message.is_memory() {
+        return false;
+    }
+    match message {
+        Message::Missing(_) => catches || untouched,
+        other => (catches && !other.wrong_input()) || other.can_catch(),
+    }
+}
 
 /// One turn of an optional value or a repeat (bpaf's `parse_option`, in `structs.rs`): Some of a
 /// value, or None where it stops.
@@ -22,7 +34,8 @@ pub(crate) fn parse_option<T: Drop, P: Parser<T>>(
     first: bool,
 ) -> Result<Option<T>, Error>
     requires { P.can_eval parser.now }
-    ensures { TurnOutcome (outcome_of (P.grammar parser.now)) catches first state.old result state.new }
+    ensures { TurnOutcome (outcome_of (P.grammar parser.now)) catches first state.old result
+        state.new }
 {
     let mark = state.mark();
     let left = state.len();
@@ -82,6 +95,6 @@ impl<T: Drop, P: Parser<T>> Parser<Option<T>> for ParseOptional<P> {
     }
 
     fn meta(&self, alloc: Global) -> Result<Meta, AllocError> {
-        optional_meta(alloc, self.inner.meta(alloc)?)
+        self.inner.meta(alloc)?.optional(alloc)
     }
 }

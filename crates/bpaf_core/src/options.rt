@@ -1,10 +1,9 @@
 //! Options: a parser, and the texts and keys of its run.
-ghost use Rattle.bpaf_grammar.specs.Grammar.{describes_of};
+ghost use Rattle.bpaf_grammar.specs.{Grammar.describes_of, Run.TellsOrder};
 ghost use Rattle.std.specs.Prelude.{◌≡◌, IfOk, List, Ok, Some, true};
-ghost use Rattle.bpaf_doc.specs.Print.{text_pieces, Prints};
-ghost use Rattle.bpaf_doc.specs.{declared.doc.Piece.Piece, Shape.Shape};
+ghost use Rattle.bpaf_doc.specs.{Print.text_pieces, Print.Prints, declared.doc.Piece.Piece};
+ghost use Rattle.bpaf_doc.specs.Shape.{Shape};
 ghost use Rattle.bpaf_pages.specs.Help.{usage_text};
-ghost use Rattle.bpaf_grammar.specs.Run.{TellsOrder};
 
 use crate::parser::Parser;
 use bpaf_doc::Doc;
@@ -41,8 +40,8 @@ impl<T, P> OptionParser<T, P> {
         self
     }
 
-    /// Sets the version, which `-V` and `--version` print (bpaf's `OptionParser::version`). It takes
-    /// no memory. Without a version these keys are unknown.
+    /// Sets the version, which `-V` and `--version` print (bpaf's `OptionParser::version`). It
+    /// takes no memory. Without a version these keys are unknown.
     ///
     /// ```text
     /// num.to_options(alloc)?.version(Doc::from_text(alloc, "1.2")?)
@@ -147,8 +146,8 @@ impl<T, P> OptionParser<T, P> {
     /// memory. bpaf has no such call.
     ///
     /// Only the setting of the options that run over the words counts: it holds behind the words of
-    /// commands too, and the setting of a command's own options has no effect. A flag or an argument
-    /// whose short name is a digit can then no longer be given as `-1`.
+    /// commands too, and the setting of a command's own options has no effect. A flag or an
+    /// argument whose short name is a digit can then no longer be given as `-1`.
     ///
     /// ```text
     /// num.to_options(alloc)?.numbers_as_words()      reads `-n -5`; without it, `-n=-5` alone
@@ -176,7 +175,9 @@ impl<T, P: Drop> OptionParser<T, P> {
     /// memory, and then the options are gone.
     pub fn version_str(self, version: &str) -> Result<OptionParser<T, P>, AllocError>
         ensures { IfOk result (λ parser. parser
-            ≡ record self { info = record self.info { version = Some (text_pieces version.now) } }) }
+            ≡ record self {
+              info = record self.info { version = Some (text_pieces version.now) };
+            }) }
     {
         let alloc = self.alloc;
         Ok(self.version(Doc::from_text(alloc, version)?))

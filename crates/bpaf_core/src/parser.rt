@@ -5,7 +5,7 @@ ghost use Rattle.bpaf_doc.specs.Shape.{shape_of};
 ghost use Rattle.bpaf_words.specs.{Arguments.given_of};
 ghost use Rattle.bpaf_grammar.specs.Grammar.{Grammar, describes_of, outcome_of};
 ghost use Rattle.bpaf_keys.specs.Info.{plain_info};
-ghost use Rattle.bpaf_grammar.specs.{Run.IsNotWant};
+ghost use Rattle.bpaf_grammar.specs.{Run.IsNotMemoryFailure};
 ghost use Rattle.bpaf_grammar.specs.Words.{Answers, AnswersSpared, Deals, Refuses};
 
 use crate::choice::ParseOrElse;
@@ -35,9 +35,9 @@ pub trait Parser<T>: Sized {
     ghost can_eval: { Self → Type 0 };
 
     /// Of what it is made. That tells what one evaluation may answer and which situation it leaves
-    /// (`outcome_of`), which values may be read off which places of a line (`reads_of`), what it may
-    /// show of itself (`describes_of`) and the short names of that, by which joined letters are read
-    /// (`shorts_of`); and that it keeps to the laws (`lawful_of`).
+    /// (`outcome_of`), which values may be read off which places of a line (`reads_of`), what it
+    /// may show of itself (`describes_of`) and the short names of that, by which joined letters are
+    /// read (`shorts_of`); and that it keeps to the laws (`lawful_of`).
     ghost grammar: { Self → Grammar T };
 
     /// Reads a value off the present items in scope, and takes these.
@@ -387,7 +387,7 @@ pub trait Parser<T>: Sized {
         ensures outcome { Answers (grammar self) plain_info (given_of args.entry) result }
         ensures named { IfErr result (Refuses (grammar self) plain_info (given_of args.entry)) }
         ensures dealt { IfOk result (Deals (grammar self) plain_info (given_of args.entry)) }
-        ensures memory_is_never_caught { IsNotWant result →
+        ensures memory_is_never_caught { IsNotMemoryFailure result →
             AnswersSpared (grammar self) plain_info (given_of args.entry) result }
     {
         self.to_options(alloc)?.run_once(args)

@@ -1,7 +1,6 @@
 //! All values of a parser, in a list.
-ghost use Rattle.bpaf_grammar.specs.Grammar.{repeat, many, some};
-ghost use Rattle.bpaf_grammar.specs.Grammar.{outcome_of};
-ghost use Rattle.std.specs.Prelude.{◌≡◌, true};
+ghost use Rattle.bpaf_grammar.specs.Grammar.{repeat, many, some, outcome_of};
+ghost use Rattle.std.specs.Prelude.{◌≡◌, ◌++◌, ◌∷◌, [], OnOk, true};
 ghost use Rattle.std.specs.Global.{Vec};
 ghost use Rattle.bpaf_laws.specs.Combinators.{ManyOutcome, SomeOutcome};
 
@@ -9,8 +8,15 @@ use crate::optional::parse_option;
 use crate::parser::Parser;
 use bpaf_doc::{Meta, Text};
 use bpaf_line::{Error, Message, State};
-use bpaf_parts::{many_meta, push_value, some_meta};
 use std::alloc::{AllocError, Global};
+
+/// Appends a value to a list; refused only for want of memory, and then the value is dropped.
+fn push_value<T: Drop>(values: &mut Vec<T>, value: T) -> Result<(), AllocError>
+    ensures { OnOk result (values.new.items ≡ values.old.items ++ value ∷ []) }
+{
+    values.push(value)?;
+    Ok(())
+}
 
 /// The values of turns, until one stops; an error of a turn is the answer.
 pub(crate) fn values_until_stop<T: Drop, P: Parser<T>>(
@@ -72,7 +78,7 @@ impl<T: Drop, P: Parser<T>> Parser<Vec<T>> for ParseMany<P> {
     }
 
     fn meta(&self, alloc: Global) -> Result<Meta, AllocError> {
-        many_meta(alloc, self.inner.meta(alloc)?)
+        self.inner.meta(alloc)?.many(alloc)
     }
 }
 
@@ -84,7 +90,8 @@ fn some_values<T: Drop, P: Parser<T>>(
     message: &str,
 ) -> Result<Vec<T>, Error>
     requires { P.can_eval parser.now }
-    ensures { SomeOutcome (outcome_of (P.grammar parser.now)) catches message.now state.old result state.new }
+    ensures { SomeOutcome (outcome_of (P.grammar parser.now)) catches message.now state.old result
+        state.new }
 {
     let values = values_until_stop(parser, state, catches)?;
     if values.is_empty() {
@@ -129,6 +136,6 @@ impl<'m, T: Drop, P: Parser<T>> Parser<Vec<T>> for ParseSome<'m, P> {
     }
 
     fn meta(&self, alloc: Global) -> Result<Meta, AllocError> {
-        some_meta(alloc, self.inner.meta(alloc)?)
+        self.inner.meta(alloc)?.some(alloc)
     }
 }

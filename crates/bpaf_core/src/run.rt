@@ -1,14 +1,15 @@
 //! A run of a parser from a state on: its value where nothing is left; else help, the version, or
 //! the message.
-ghost use Rattle.bpaf_grammar.specs.Grammar.{outcome_of, describes_of};
 ghost use Rattle.bpaf_grammar.specs.Ending.{EndsRefused, EndsRun, PassesOrTells, ShowsHelp, Tells};
+ghost use Rattle.bpaf_grammar.specs.Grammar.{outcome_of, describes_of};
+ghost use Rattle.bpaf_line.specs.Failure.{is_shown};
 ghost use Rattle.bpaf_grammar.specs.Run.{Runs};
+ghost use Rattle.std.specs.Prelude.{◌≡◌, ◌&&◌, not};
 
 use crate::parser::Parser;
 use bpaf_keys::{ExtraParams, Info, version_page};
 use bpaf_line::{Message, ParseFailure, State};
 use bpaf_messages::{leftover, render};
-use bpaf_parts::stands_in;
 use std::alloc::Global;
 use std::marker::PhantomData;
 
@@ -52,8 +53,8 @@ impl<T: Drop, P: Parser<T>> Run<'_, T, P> {
     #[tactic(auto, using(crate::proofs::Running::memory_ends, crate::proofs::Running::others_end, crate::proofs::Running::usage_ends))]
     fn end_refused(&self, usage: bool, message: Message, state: &mut State) -> ParseFailure
         requires { P.can_eval self.now.inner.now }
-        ensures { EndsRefused (describes_of (P.grammar self.now.inner.now)) self.now.info.now usage message
-            state.old result state.new }
+        ensures { EndsRefused (describes_of (P.grammar self.now.inner.now)) self.now.info.now usage
+            message state.old result state.new }
     {
         if message.is_memory() {
             drop(message);
@@ -69,8 +70,8 @@ impl<T: Drop, P: Parser<T>> Run<'_, T, P> {
     /// The answer of an inner run as it is, and the text of any other message.
     fn answer(&self, message: Message, state: &mut State) -> ParseFailure
         requires { P.can_eval self.now.inner.now }
-        ensures { PassesOrTells (describes_of (P.grammar self.now.inner.now)) self.now.info.now message
-            state.old result state.new }
+        ensures { PassesOrTells (describes_of (P.grammar self.now.inner.now)) self.now.info.now
+            message state.old result state.new }
     {
         match message.into_answer() {
             Ok(failure) => failure,
@@ -107,8 +108,8 @@ impl<T: Drop, P: Parser<T>> Run<'_, T, P> {
     /// The help page at the path of a state, in full or not; or want of memory for it.
     fn help(&self, state: &State, full: bool) -> ParseFailure
         requires { P.can_eval self.now.inner.now }
-        ensures { ShowsHelp (describes_of (P.grammar self.now.inner.now)) self.now.info.now full state.now
-            result }
+        ensures { ShowsHelp (describes_of (P.grammar self.now.inner.now)) self.now.info.now full
+            state.now result }
     {
         let Ok(meta) = self.inner.meta(self.alloc) else {
             return ParseFailure::Memory;
@@ -118,4 +119,12 @@ impl<T: Drop, P: Parser<T>> Run<'_, T, P> {
             Err(_) => ParseFailure::Memory,
         }
     }
+}
+
+/// Whether help, where it is wanted, stands in for a message: for each but one that shows
+/// something. It takes no memory.
+fn stands_in(usage: bool, message: &Message) -> bool
+    ensures { result ≡ (usage && not (is_shown message.now)) }
+{
+    usage && !message.is_shown()
 }

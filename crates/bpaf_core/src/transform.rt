@@ -1,11 +1,10 @@
 //! What closures make of a parser's value, and the checks that they do.
 ghost use Rattle.bpaf_grammar.specs.Grammar.{mapped, parsed, guarded, closed};
-ghost use Rattle.std.specs.{Prelude.Ok, Fn.FnReturnsAt};
+ghost use Rattle.std.specs.{Prelude.Ok, Prelude.◌≡◌, Prelude.◌⊎◌, Fn.FnReturnsAt};
 
 use crate::parser::Parser;
 use bpaf_doc::{Meta, Text};
 use bpaf_line::{Error, Message, State};
-use bpaf_parts::guard_failed;
 use std::alloc::{AllocError, Global};
 use std::fmt::Display;
 use std::marker::PhantomData;
@@ -67,6 +66,18 @@ impl<T, R, E: Display + Drop, P: Parser<T>, F: Fn(T) -> Result<R, E>> Parser<R>
 
     fn meta(&self, alloc: Global) -> Result<Meta, AllocError> {
         self.inner.meta(alloc)
+    }
+}
+
+/// The refusal of a value of which a check is false: GuardFailed with the message, which names the
+/// current place; or want of memory, for the message.
+fn guard_failed(state: &State, message: &str) -> Error
+    ensures { (result.0 ≡ Message.GuardFailed state.now.current message.now)
+        ⊎ (result.0 ≡ Message.Memory) }
+{
+    match Text::new(state.alloc(), message) {
+        Ok(message) => Error(Message::GuardFailed(state.current(), message)),
+        Err(_) => Error(Message::Memory),
     }
 }
 

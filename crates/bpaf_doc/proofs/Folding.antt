@@ -101,7 +101,7 @@ folded_character after c rest is_break known =
 no_break_tail : (c : ℕ) (rest : List ℕ) → HasNoBreak (c ∷ rest) → HasNoBreak rest
 no_break_tail c rest free = λ i within. free (suc i) (omega arith)
 
--- nor is the first character one
+-- the first character of a text without a line break is none
 no_break_head : (c : ℕ) (rest : List ℕ) → HasNoBreak (c ∷ rest) → (c == 10) ≡ false
 no_break_head c rest free = let differs : c ≢ 10 = free 0 (omega arith) in grind (arith, nat_tests)
 
@@ -197,7 +197,8 @@ shapes_of_members [] = refl
 shapes_of_members (shape ∷ shapes) = ap (λ rest. shape ∷ rest) (shapes_of_members shapes)
 
 -- the shape of an Or
-pub or_shape : (all : Vec Meta Global) → shape_of (meta.Or all) ≡ Or (members (map shape_of all.items))
+pub or_shape : (all : Vec Meta Global) → shape_of (meta.Or all)
+    ≡ Or (members (map shape_of all.items))
 unfolding meta.roll-Meta denote.Hole.Carrier.roll
 or_shape all = fold-roll-Meta Part Shape part_layer shape_layer (Meta-F.Or all)
 

@@ -5,8 +5,8 @@ use crate::doc::Doc;
 use std::alloc::{AllocError, Global};
 use std::marker::Model;
 
-/// A text that a program gives to be shown, such as a help or a description: a text of the program's
-/// own, or a document. Contracts see it as the pieces that are shown.
+/// A text that a program gives to be shown, such as a help or a description: a text of the
+/// program's own, or a document. Contracts see it as the pieces that are shown.
 ///
 /// A text of the program's own takes no memory before it is shown, and is then what
 /// [`Doc::from_text`] makes of it.

@@ -8,6 +8,7 @@
 //!   specs/Print.antt has it, and what a text gives with its line breaks folded.
 //! - [`Help`] is what a program gives to be shown, a text of its own, which takes no memory, or a
 //!   `Doc`.
+//! - [`displayed`], [`debugged`] and [`formatted`] write a default (specs/Default.antt).
 //! - [`Item`] is one flag, argument, word or command as it is shown, and [`Meta`] the tree of them
 //!   that a parser shows; [`MetaInfo`] lends one. Contracts see both through `part_of` and
 //!   `shape_of` (specs/Shape.antt), data without addresses and capacities. Messages and
@@ -22,6 +23,7 @@
 #![tactic(auto)]
 
 mod copies;
+mod defaults;
 mod doc;
 mod fold;
 mod help;
@@ -32,6 +34,7 @@ mod walks;
 mod written;
 
 pub use bpaf_base::Text;
+pub use defaults::{debugged, displayed, formatted};
 pub use doc::{Doc, Piece, Style};
 pub use help::Help;
 pub use item::{Item, Metavar, ShortLong};

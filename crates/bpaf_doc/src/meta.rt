@@ -1,6 +1,6 @@
 //! The tree of what a parser shows.
 ghost use Rattle.std.specs.Prelude.{◌≡◌, IfOk, map};
-ghost use Rattle.bpaf_doc.specs.Shape.{alternatives, shape_of};
+ghost use Rattle.bpaf_doc.specs.Shape.{Many, Optional, Required, alternatives, shape_of};
 
 use crate::doc::Doc;
 use crate::item::Item;
@@ -36,6 +36,29 @@ pub enum Meta {
 }
 
 impl Meta {
+    /// This one, which may be left out; refused only for want of memory.
+    pub fn optional(self, alloc: Global) -> Result<Meta, AllocError>
+        ensures { IfOk result (λ all. shape_of all ≡ Optional (shape_of self)) }
+    {
+        Ok(Meta::Optional(Box::new(alloc, self)?))
+    }
+
+    /// This one, any number of times; refused only for want of memory.
+    pub fn many(self, alloc: Global) -> Result<Meta, AllocError>
+        ensures { IfOk result (λ all. shape_of all ≡ Many (Optional (shape_of self))) }
+    {
+        let optional = Meta::Optional(Box::new(alloc, self)?);
+        Ok(Meta::Many(Box::new(alloc, optional)?))
+    }
+
+    /// This one, once or more; refused only for want of memory.
+    pub fn some(self, alloc: Global) -> Result<Meta, AllocError>
+        ensures { IfOk result (λ all. shape_of all ≡ Many (Required (shape_of self))) }
+    {
+        let required = Meta::Required(Box::new(alloc, self)?);
+        Ok(Meta::Many(Box::new(alloc, required)?))
+    }
+
     /// What it adds to a choice: the members of an `Or`, and else itself (bpaf's `Meta::or`, in
     /// `meta.rs`). Refused only for want of memory.
     #[tactic(auto, using(crate::proofs::Folding::or_adds))]

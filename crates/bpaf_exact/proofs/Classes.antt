@@ -53,7 +53,8 @@ is_missing_of m e = (tests_are m e).1
 
 -- two missing items are missing together
 pub combined_missing : (m n : Message) {g : Message} → error_class m ≡ OfMissing
-    → error_class n ≡ OfMissing → Combines m n g → (error_class g ≡ OfMissing) ⊎ (error_class g ≡ OfMemory)
+    → error_class n ≡ OfMissing → Combines m n g → (error_class g ≡ OfMissing)
+    ⊎ (error_class g ≡ OfMemory)
 combined_missing m n e f c = grind (arith, is_missing_of)
 
 -- of two others one stands for both: the first where it can't be caught, else the second

@@ -1,5 +1,5 @@
--- A choice of two alternatives is one; and closures round commands, choices of them, and commands that
--- may be left out keep to the laws.
+-- A choice of two alternatives is one; and closures round commands, choices of them, and commands
+-- that may be left out keep to the laws.
 use Rattle.std.proofs.Common.{true≢false, length, Option, Result, ⊎_elim, false, arith, subst, Bool}
 use Rattle.std.proofs.Common.{true, zero, List, None, Some, refl, ◌++◌, ◌||◌, Err, suc, ◌<◌, ◌∷◌, ℕ}
 use Rattle.std.proofs.Common.{◌≡◌, sym, ◌∙◌, inl, inr, ◌⊎◌, [], Ok, ap}
@@ -45,7 +45,7 @@ pub record SameScope (m n : Situation) : Type 0 where
 pub same_scope : {m n : Situation} → Steady m n → SameScope m n
 same_scope a = record { context = a.context; start = a.start; end = a.end }
 
--- so it is the same in two that began alike
+-- two evaluations that began alike keep the same
 steady_both : {s m n : Situation} → Steady s m → Steady s n → SameScope n m
 steady_both a b = grind arith
 
@@ -197,7 +197,7 @@ module _ {env : Variables} {T : Type 0} {a b : Outcome T} {qa qb : Roles}
       → AlternativeOk T q v s x n → TookLeft cm (cells n) → Other T q v (cells s) cm
   ok_other j l = ⊎_elim (λ f. other_first f l) (λ z. other_unread z) j.first
 
-  -- and both are equally deep
+  -- both branches are equally deep
   equally_deep : {s t : Situation} {r : Result T Error} → IsWholeIn env s
       → (o : BranchesEval a b s r t) → EqualDepths s o.a o.sa o.b o.sb r t
   equally_deep w o = grind (arith, chosen_at_equal, not_memory)
@@ -330,7 +330,7 @@ none_own : (q : Roles) {cs : Cells} → NonePresent cs → pieces q cs ≡ []
 none_own q no_place = refl
 none_own q (none_here n) = none_own q n
 
--- nor does anything open a command
+-- where nothing is present nothing opens a command
 pub none_opens : {words : List (List ℕ)} {cs : Cells} → NonePresent cs → OpensNone words cs
 none_opens no_place ds o = elim o [ ]
 none_opens (none_here n) ds (opens_later {ds = es} o) = none_opens n es o
@@ -385,15 +385,15 @@ record Alike (m t : Situation) : Type 0 where
   cells_alike : cells t ≡ cells m
   depth_alike : depth t ≡ depth m
 
--- so they are where they are one
+-- a situation is like itself
 alike_same : {m t : Situation} → t ≡ m → Alike m t
 alike_same e = record { cells_alike = ap cells e; depth_alike = ap depth e }
 
--- and one after another
+-- situations that are alike, one after another
 alike_then : {l m t : Situation} → Alike l m → Alike m t → Alike l t
 alike_then e f = grind arith
 
--- and where conflicts are saved
+-- situations are alike where conflicts are saved
 alike_saved : {m : Situation} (other : Situation) {t : Situation} {place : ℕ}
     → ConflictsSaved m other place t → Alike m t
 alike_saved other c = grind (arith, cells_same, same_scope, saved_steady)
@@ -426,7 +426,7 @@ module _ {env : Variables} {T : Type 0} {a b : Outcome T} {ra rb : Roles} {wa wb
   by_first (Ok v) i = of_first i (alike_same refl)
   by_first (Err e) i = tt
 
-  -- and of the second
+  -- an answer of the second branch
   by_second : {s t : Situation} (r : Result T Error) → b s r t → OfBranch s r t
   by_second (Ok v) i = of_second i (alike_same refl)
   by_second (Err e) i = tt
@@ -441,7 +441,7 @@ module _ {env : Variables} {T : Type 0} {a b : Outcome T} {ra rb : Roles} {wa wb
   second_closed : {cs : Cells} {u : T} → va cs u → OpensNone wb cs
   second_closed {cs} {u} h ds o = let i = la.opened cs u h in opens_apart wa wb apart i.1 o
 
-  -- nor the other way
+  -- what has a value of the second doesn't open the first
   first_closed : {cs : Cells} {u : T} → vb cs u → OpensNone wa cs
   first_closed {cs} {u} h ds o = let i = lb.opened cs u h in opens_apart wa wb apart o i.1
 
@@ -503,7 +503,7 @@ module _ {env : Variables} {T : Type 0} {a b : Outcome T} {ra rb : Roles} {wa wb
   none_branch {s} {v} w n (of_second {m} i e) =
       lb.none.ok s m v w i (λ ds p. n ds (opens_right wa wb p))
 
-  -- and the choice is missing
+  -- where no word opens anything the choice is missing
   choice_none : (s t : Situation) (e : Error) → IsWholeIn env s → ChoiceOutcome a b s (Err e) t
       → OpensNone (wa ++ wb) (cells s) → FindsNoCommand s (class e) t
   choice_none s t e w (inr o) n = inl (memory_class e.0 o.0)

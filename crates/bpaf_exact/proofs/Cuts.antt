@@ -30,7 +30,7 @@ word_not_key x h = grind arith
 pub value_foreign : {q : Roles} {w : Arg} → IsNamed q → is_value w ≡ true → q w ≡ Foreign
 value_foreign {w} n h = n.only_keys w (value_not_key w h)
 
--- nor does a word
+-- a word belongs to no named field
 pub word_foreign : {q : Roles} {w : Arg} → IsNamed q → is_positional w ≡ true → q w ≡ Foreign
 word_foreign {w} n h = n.only_keys w (word_not_key w h)
 
@@ -44,7 +44,7 @@ pub nil_rest : (x : Role) (k : Arg) (cs : Cells) {os : List LinePiece} → begin
     → os ≡ []
 nil_rest x k cs e = grind arith
 
--- and the item isn't the field's own
+-- where no piece begins the item isn't the field's own
 pub nil_foreign : (x : Role) (k : Arg) (cs : Cells) (os : List LinePiece)
     → begin_piece x k cs os ≡ [] → x ≡ Foreign
 nil_foreign x k cs os e = grind arith
@@ -63,7 +63,7 @@ keeps_other nq nr a (takes_later {c = None} t) = keeps_other nq nr a t
 keeps_other {r} nq nr a (takes_later {c = Some k} {cs} {ds} t) =
     grind (arith, same_next k nq t, keeps_other nq nr a t)
 
--- so do some pieces
+-- Some pieces that one takes of its own leave those of another as they are.
 pub keeps_other_some : {q r : Roles} {cs ds : Cells} → IsNamed q → IsNamed r → Apart q r
     → TakesPieces q cs ds → pieces r ds ≡ pieces r cs
 keeps_other_some nq nr a takes_none = refl
@@ -132,7 +132,7 @@ pub record CutsOff (q r : Roles) : Type 0 where
   pub pair : (k : Arg) → q k ≡ WithNext → (r k ≡ WithNext) × (is_positional k ≡ false)
   pub value : (k w : Arg) → r k ≡ WithNext → is_value w ≡ true → q w ≡ Foreign
 
--- so are those of a named field
+-- a named field's own pieces are ones of a cut by its keys and others
 pub named_cuts : {q : Roles} (r : Roles) → IsNamed q → CutsOff q (either q r)
 named_cuts r n = grind (arith, either_own, false_from_ne_true, word_foreign, value_foreign)
 
@@ -156,7 +156,7 @@ put_back f (takes_later {c = Some k} (takes_later {c = Some w} t)) (argument e v
     cut_more (put_back f t c) (λ ps. argument e v)
 put_back f (takes_later {c = Some k} t) (word h c) = cut_more (put_back f t c) (λ ps. word h)
 
--- so are some pieces
+-- some pieces given back to their places are cut off there again
 pub put_back_some : {q r : Roles} {cs ds : Cells} {os : List LinePiece} → CutsOff q r
     → TakesPieces q cs ds → Cut r ds os → CutAlike q r cs os
 put_back_some {os} f takes_none c = record { now = os; cut = c; alike = refl }
@@ -239,7 +239,7 @@ NoKeys r = (k : Arg) → r k ≡ Foreign
 word_of : {q : Roles} (k : Arg) → IsWords q → q k ≡ Alone → is_positional k ≡ true
 word_of k n e = grind arith
 
--- and a piece by itself
+-- an item of a positional field is a piece by itself
 pub never_two : {q : Roles} {k : Arg} → IsWords q → q k ≡ WithNext → ⊥
 never_two n e = grind arith
 

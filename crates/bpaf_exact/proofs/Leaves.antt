@@ -29,7 +29,8 @@ use Rattle.bpaf_exact.proofs.Cuts.{first_pieces, first_takes, some_trans, never_
 use Rattle.bpaf_exact.proofs.{Wrappers.took_front, Wrappers.gap_empty, Classes.memory_class}
 use Rattle.bpaf_exact.specs.Flat.{AlternativeErr, AlternativeOk, first_later, gave_absent, EachWord}
 use Rattle.bpaf_exact.specs.Flat.{TakesFirst, WordByWord, first_one, first_two, FieldKind, OfMemory}
-use Rattle.bpaf_exact.specs.Flat.{error_class, SingleOk, TakesAny, of_piece, OneWord, FrontOf, Refused}
+use Rattle.bpaf_exact.specs.Flat.{error_class, SingleOk, TakesAny, of_piece, OneWord, FrontOf}
+use Rattle.bpaf_exact.specs.Flat.{Refused}
 use Rattle.bpaf_exact.specs.Flat.{ByName, Caught, Steady, Groups, gap_of, cells, class, front, back}
 use Rattle.bpaf_exact.specs.Flat.{OfMissing, Variables, is_behind, SingleErr, SingleLaw, of_memory}
 use Rattle.bpaf_exact.specs.ProgramForm.{argument_field, argument_group, argument_roles, flag_field}
@@ -41,9 +42,10 @@ use Rattle.bpaf_exact.specs.Pieces.{word_roles, LinePiece, WithNext, IsNamed, pi
 use Rattle.bpaf_exact.specs.{Pieces.Roles, Pieces.Owns, Pieces.One, Pieces.Two, Flat.took, Flat.Gap}
 use Rattle.bpaf_exact.specs.{ProgramForm.FormLaw, ProgramForm.word_by, Says.of_kind, Says.Says}
 
--- so does that of a key, or without a place on the line that no name in the environment is set
+-- the class of the absence of a key, or of a key without a place that no set variable stands in for
 pub absence_class : (s : Situation) (part : Option Part) (envs : List (List ℕ)) (m : Message)
-    → IsAbsence s part envs m → (error_class m ≡ OfMissing) ⊎ ((error_class m ≡ Caught) × (envs ≡ [] → ⊥))
+    → IsAbsence s part envs m → (error_class m ≡ OfMissing)
+    ⊎ ((error_class m ≡ Caught) × (envs ≡ [] → ⊥))
 absence_class s x envs m o = grind arith
 
 -- What a parser answers where no piece of its own is there: what stands for that; or it is refused;
@@ -76,23 +78,23 @@ pub data FirstRead (T : Type 0) (k : FieldKind) (q : Roles) (value : LinePiece �
 
 module _ {T : Type 0} {k : FieldKind} {q : Roles} {gap : Gap T} {other : Type 0}
     {s t : Situation} where
-  -- a value for no piece is one of a single evaluation, however that reads pieces,
+  -- a value for no piece is one of a single evaluation, however that reads pieces
   pub none_ok : {group : Groups T} {v : T} → front k (pieces q (cells s)) ≡ []
       → NoneRead T gap other s (Ok v) t → SingleOk T k q group gap s v t
   none_ok p (none_absent has a same st) = gave_absent has p a same st
 
-  -- and so is a refusal
+  -- a refusal without a piece is one of a single evaluation, however that reads pieces
   pub none_err : {group : Groups T} {e : Error} → front k (pieces q (cells s)) ≡ []
       → NoneRead T gap other s (Err e) t → SingleErr T k q group gap s (class e) t
   none_err p x = grind arith
 
-  -- the value of a first piece is one of a single evaluation,
+  -- the value of a first piece is one of a single evaluation
   pub first_ok : {value : LinePiece → T → Type 0} {v : T}
       → FirstRead T k q value gap other s (Ok v) t → SingleOk T k q (FrontOf T value) gap s v t
   first_ok {value} (read_first st f is some y) = took (took_front value st f is y some)
   first_ok (read_none p n) = none_ok p n
 
-  -- and so is a refusal
+  -- the refusal of a first piece is one of a single evaluation
   pub first_err : {value : LinePiece → T → Type 0} {e : Error}
       → FirstRead T k q value gap other s (Err e) t
       → SingleErr T k q (FrontOf T value) gap s (class e) t
@@ -100,12 +102,13 @@ module _ {T : Type 0} {k : FieldKind} {q : Roles} {gap : Gap T} {other : Type 0}
 
 module _ {T : Type 0} {q : Roles} {value : LinePiece → T → Type 0} {gap : Gap T} {other : Type 0}
     {s t : Situation} (has : gap.has ≡ false) where
-  -- where nothing stands for no piece, it is one of an alternative,
+  -- where nothing stands for no piece, the value of a first one is one of an alternative
   alternative_ok : {v : T} → FirstRead T ByName q value gap other s (Ok v) t
       → AlternativeOk T q value s v t
   alternative_ok x0 = grind (arith, first_takes)
 
-  -- and so is a refusal, where without a piece an item is missing
+  -- where nothing stands for no piece, a refusal is one of an alternative; without a piece it is
+  -- missing
   alternative_err : {e : Error} → (other → ⊥) → FirstRead T ByName q value gap other s (Err e) t
       → AlternativeErr T q value s (class e) t
   alternative_err never x = grind (arith, steady_refl)
@@ -185,7 +188,7 @@ module _ {T : Type 0} (clones : T → T → Type 0) (key : Key) (present : T) (a
       h in
       rw takes.2 (read_first take_steady h is (λ none. absurd cc) y)
 
-  -- and so is what stands for none
+  -- what stands for no key is an answer
   absent_read : {s t : Situation} {v : T} → HasNone (is_key_of key.names) s → t ≡ s
       → (flag_gap.has ≡ true) × flag_gap.absent v → FlagRead s (Ok v) t
   absent_read {s} none same g =

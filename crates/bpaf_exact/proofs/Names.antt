@@ -1,5 +1,5 @@
--- Fields with keys apart have no item in common, pieces shared out by roles are so by names; and what
--- a field takes of pieces, and leaves.
+-- Fields with keys apart have no item in common, pieces shared out by roles are so by names; and
+-- what a field takes of pieces, and leaves.
 use Rattle.std.proofs.Common.{if◌then◌else◌, append-nil, bytes_eq, ⊎_elim, length, arith, false, []}
 use Rattle.std.proofs.Common.{List, refl, true, ◌&&◌, ◌++◌, ◌==◌, ◌||◌, Bool, take, drop, ap₂, not}
 use Rattle.std.proofs.Common.{sym, ◌∙◌, ◌∷◌, ◌≡◌, ap}
@@ -92,7 +92,7 @@ kept_none : {p : LinePiece → Bool} → ((o : LinePiece) → p o ≡ false) →
 kept_none none [] = refl
 kept_none {p} none (o ∷ os) = grind (arith, kept_none none os)
 
--- so it is where it never holds of what another kept
+-- where a test never holds of what another kept, nothing is kept
 kept_neither : {p q : LinePiece → Bool} → ((o : LinePiece) → q o ≡ true → p o ≡ false)
     → (os : List LinePiece) → filter p (filter q os) ≡ []
 kept_neither {p} {q} apart os =
@@ -119,11 +119,11 @@ module _ (r : Roles) (names : List Names) where
   fits_kept f [] fits = refl
   fits_kept f (o ∷ os) fits = grind (arith, fits_kept f os fits.1)
 
-  -- so they are those,
+  -- own pieces are those that begin with a key of one's names
   pub mine_keyed : (os : List LinePiece) → OwnBy names r os → mine r os ≡ keyed names os
   mine_keyed = fits_kept (λ b. b)
 
-  -- and those of others the rest
+  -- the pieces of others are those that begin with no key of one's names
   pub others_unkeyed : (os : List LinePiece) → OwnBy names r os → others r os ≡ unkeyed names os
   others_unkeyed = fits_kept not
 
@@ -134,7 +134,7 @@ module _ (r : Roles) (names : List Names) where
     own_fit (o ∷ os) all =
         (all.0 ∙ sym (owned.own (first_item o) (sym (own_first r o) ∙ all.0)), own_fit os all.1)
 
-    -- so do those of a cut by one's keys
+    -- the own pieces of a cut by one's keys begin with a key of one's names
     pub cut_fit : {cs : Cells} {os : List LinePiece} → Cut r cs os → OwnBy names r os
     cut_fit at_end = tt
     cut_fit (passed c) = cut_fit c
@@ -157,7 +157,7 @@ pub each_own : (q : Roles) (os : List LinePiece) → EachOwn q (mine q os)
 each_own q [] = tt
 each_own q (o ∷ os) = grind (arith, each_own q os)
 
--- so are those taken from cells
+-- the pieces taken from cells are all one's own
 pub taken_own : {q : Roles} {cs ds : Cells} {os : List LinePiece} → Takes q cs os ds → EachOwn q os
 taken_own no_cells = tt
 taken_own (empty_stays t) = taken_own t
@@ -188,7 +188,7 @@ none_of_both x e = grind arith
 pub apart_first : {p q : Roles} (r : Roles) → Apart p (either q r) → Apart p q
 apart_first r a = grind (arith, none_of_both, first_within)
 
--- and from the other
+-- what is apart from two is apart from the second
 pub apart_second : {p : Roles} (q : Roles) {r : Roles} → Apart p (either q r) → Apart p r
 apart_second q a = grind (arith, none_of_both, second_within)
 
@@ -198,11 +198,11 @@ pub mine_of_others : (p q : Roles) → ((k : Arg) → is_own_role (q k) ≡ true
 mine_of_others p q apart = grind (arith, and_from, and_parts, kept_twice, own_first)
 
 module _ (q : Roles) (none : (k : Arg) → is_own_role (q k) ≡ false) where
-  -- where no item is one's own, no piece is,
+  -- where no item is one's own, no piece is
   pub mine_none : (os : List LinePiece) → mine q os ≡ []
   mine_none = kept_none (λ o. own_first q o ∙ none (first_item o))
 
-  -- and each is another's
+  -- where no item is one's own, each piece is another's
   pub others_none : (os : List LinePiece) → others q os ≡ os
   others_none [] = refl
   others_none (o ∷ os) = grind (arith, own_first, others_none os)
@@ -244,7 +244,7 @@ others_fit q r names (o ∷ os) fit =
     elim (is_own q o) as (λ b. OwnBy names r (if not b then (o ∷ others q os) else others q os))
     [ true ↦ others_fit q r names os fit.1 | false ↦ (fit.0, others_fit q r names os fit.1) ]
 
--- so do those that it is told of
+-- the pieces that what is left is told of fit as the whole line's do
 pub rest_fit : (r : Roles) (names : List Names) (whole os : List LinePiece) → OwnBy names r whole
     → OwnBy names r os → OwnBy names r (keyed names whole ++ others r os)
 rest_fit r names [] os fits fit = others_fit r r names os fit
@@ -258,7 +258,7 @@ mine_rest r names whole os fits =
     ∙ ap₂ ◌++◌ (ap (mine r) (sym (mine_keyed r names whole fits)) ∙ mine_within r r (λ k e. e)
     whole) (kept_neither (λ o. not-true (is_own r o)) os) ∙ append-nil (mine r whole)
 
--- and those of others are the words that are left
+-- the pieces of others are the words that are left
 pub others_rest : (r : Roles) (names : List Names) (whole os : List LinePiece) → OwnBy names r whole
     → others r (keyed names whole ++ others r os) ≡ others r os
 others_rest r names whole os fits =
@@ -284,7 +284,7 @@ each_back true {os} =
     let n = position_or_len is_behind os in
     behind_first (take n os) (drop n os) (take-append-drop n os)
 
--- so it is with any field
+-- what a field takes and what it leaves are all
 front_back : (k : FieldKind) {os : List LinePiece} → front k os ++ back k os ≡ os
 front_back ByName {os} = append-nil os
 front_back (EachWord b) = each_back b
@@ -329,7 +329,7 @@ pub front_more : {b : Bool} {o : LinePiece} (os : List LinePiece) → (b ≡ tru
     → front (EachWord b) (o ∷ os) ≡ o ∷ front (EachWord b) os
 front_more os clear = grind (arith, each_front)
 
--- and leaves what it leaves of those
+-- a repeat that takes a word leaves what it leaves of the others
 pub back_more : {b : Bool} (o : LinePiece) (os : List LinePiece) → (b ≡ true → is_behind o ≡ false)
     → back (EachWord b) (o ∷ os) ≡ back (EachWord b) os
 back_more o os clear = ap (λ z. drop (length z) (o ∷ os)) (front_more os clear)
@@ -339,7 +339,7 @@ pub front_one : (b : Bool) (o : LinePiece) (os : List LinePiece) → (b ≡ true
     → front (OneWord b) (o ∷ os) ≡ o ∷ []
 front_one b o os clear = ap (take 1) (front_more os clear)
 
--- and leaves the others
+-- a field without a repeat that takes a word leaves the others
 pub back_one : (b : Bool) (o : LinePiece) {os : List LinePiece} → (b ≡ true → is_behind o ≡ false)
     → back (OneWord b) (o ∷ os) ≡ os
 back_one b o {os} clear = ap (λ z. drop (length z) (o ∷ os)) (front_one b o os clear)

@@ -32,13 +32,13 @@ use Rattle.bpaf_exact.specs.Says.{HasOneView, pair_view, OneGroup, Respects, Ali
 
 module _ (A B X Y : Type 0) (see : A → X) (look : B → Y) (f : Closure A B)
     (respects : Respects A B X Y see look f) where
-  -- What such a closure makes of values that look alike looks alike: of the same pieces or cells,
+  -- What such a closure makes of values that look alike, of the same pieces or cells, looks alike.
   made_view : {Z : Type 0} (value : Z → A → Type 0) → ((z : Z) → Alike see (value z)) → (z : Z)
       → Alike look (ClosedValue value f z)
   made_view value u z v w a b =
       respects.same a.from b.from v w (u z a.from b.from a.read b.read) a.made b.made
 
-  -- and of a field, or of commands
+  -- What such a closure makes of a field's or of commands' values that look alike looks alike.
   pub closed_view : (s : ProgramForm A) → HasOneView see s → HasOneView look (program_closed f s)
   closed_view (alternative wide q value) u = made_view value u
   closed_view (single wide k q group gap) u = (
@@ -133,7 +133,7 @@ module _ {env : Variables} {T X : Type 0} {see : T → X} {inner : Outcome T} (k
   own_never : {v : T} {vs : List T} → Own T group [] (v ∷ vs) → ⊥
   own_never o = let e = own_nil l refl o in cc
 
-  -- so do they under a repeat
+  -- the values of a repeat of what looks alike look alike
   pub list_view : (os : List LinePiece) → Alike (map see) (OwnList T group gap os)
   list_view os vs ws x3 x4 = grind (arith, own_view, own_never)
 
@@ -282,7 +282,7 @@ module _ {A B X : Type 0} {see : A → X} {f : Closure A B}
   alike_agrees : (value : A → Type 0) → Alike see value → AgreesOn value f
   alike_agrees value one x y v a b made refused = apart x y v (one x y a b) made refused
 
-  -- so round a field, and round commands
+  -- a closure agrees round a field, or round commands, whose values look alike
   pub view_agrees : (s : ProgramForm A) → HasOneView see s → Agrees f s
   view_agrees (alternative wide q value) one = λ o. alike_agrees (value o) (one o)
   view_agrees (single wide k q group gap) one = (
@@ -295,7 +295,7 @@ module _ {A B X : Type 0} {see : A → X} {f : Closure A B}
   view_agrees _ one = tt
 
 module _ {A B : Type 0} (f : Closure A B) (decides : Decides f) where
-  -- So does one that decides, where the values are one.
+  -- A closure that decides agrees where the values are one.
   pub closure_agrees : (s : ProgramForm A) → HasOneView (λ v. v) s → Agrees f s
   closure_agrees = view_agrees (λ x y v e a n. decides x v a (rw e n))
 

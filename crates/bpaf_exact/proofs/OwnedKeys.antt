@@ -19,7 +19,7 @@ FormOwns names (complete wide k q value) = Owns (keys k q) names
 FormOwns names (product wide named q fields) = Owns q names
 FormOwns names _ = Unit {0}
 
--- so it is with a form
+-- a form's own items are those with one of these names
 pub record OwnsKeys {T : Type 0} (names : List Names) (s : ProgramForm T) : Type 0 where
   pub by : FormOwns names s
 

@@ -7,10 +7,11 @@ use Rattle.std.specs.Option.{option_map_or, is_some}
 use Rattle.bpaf_base.specs.Items.{value_text, is_key_of, item_text, any_item}
 use Rattle.bpaf_base.specs.declared.arg.Arg.{Arg}
 use Rattle.bpaf_doc.specs.Names.{Names}
-use Rattle.bpaf_index.proofs.BitSets.{count_below-same, count_below-some}
+use Rattle.bpaf_base.proofs.Count.{count_below-same, count_below-some}
 use Rattle.bpaf_line.proofs.Places.{open_item_there, open_has_item, open_in_line, taken_other}
 use Rattle.bpaf_line.proofs.Places.{taken_stays, taken_here}
-use Rattle.bpaf_line.specs.Situation.{count_below, open_count, take_place, Situation, in_scope}
+use Rattle.bpaf_line.specs.Situation.{open_count, take_place, Situation, in_scope}
+use Rattle.bpaf_base.specs.Count.{count_below}
 use Rattle.bpaf_line.specs.Situation.{is_taken, is_open, item_at}
 use Rattle.bpaf_line.specs.Taking.{value_after, open_item, is_match, HasNone, IsFirst}
 use Rattle.bpaf_exact.proofs.{Cuts.begin_at}
@@ -150,7 +151,7 @@ same_item s t p e f g = grind arith
 pub open_one : (s : Situation) (p : ℕ) → TakenOne (open_item s) (open_item (take_place s p)) p
 open_one s p = grind (arith, closed_item, taken_here, same_item, taken_other)
 
--- and the next
+-- two places taken, one after the other
 pub open_two : (s : Situation) (p : ℕ)
     → TakenTwo (open_item s) (open_item (take_place (take_place s p) (suc p))) p
 open_two s p =

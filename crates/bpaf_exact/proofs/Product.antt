@@ -32,7 +32,7 @@ none_outside_after w k = grind arith
 pub steady_refl : {s : Situation} → Steady s s
 steady_refl = record { context = refl; start = refl; end = refl; path = refl; keeps = λ p h. h }
 
--- nor in two steps
+-- nothing has changed in two steps
 pub steady_trans : {s m t : Situation} → Steady s m → Steady m t → Steady s t
 steady_trans a b = grind arith
 
@@ -204,7 +204,7 @@ none_counted [] e = no_place
 none_counted (None ∷ cs) e = none_here (none_counted cs e)
 none_counted (Some x ∷ cs) e = absurd (omega arith)
 
--- and the other way
+-- The count is nought where nothing is present.
 pub count_none : {cs : Cells} → NonePresent cs → present_count cs ≡ 0
 count_none no_place = refl
 count_none (none_here n) = count_none n
@@ -300,18 +300,18 @@ module _ (p q r : Roles) (test : LinePiece → Bool) where
     passed_by : q k ≡ Foreign → ((o : LinePiece) → is_own p o ≡ is_own_role (p k) → test o ≡ false)
         → Kept k
 
-  -- and all
+  -- what it makes of all pieces
   kept_pieces : ((k : Arg) → Kept k) → (cs : Cells) → filter test (pieces r cs) ≡ pieces q cs
   kept_pieces each [] = refl
   kept_pieces each (None ∷ cs) = kept_pieces each cs
   kept_pieces each (Some k ∷ cs) = grind (arith, begin_at, own_next, kept_pieces each cs)
 
 module _ {p q r : Roles} (u : Union p q r) where
-  -- of the pieces of both the first one's are its own,
+  -- of the pieces of both the first one's are its own
   pub mine_of_both : (cs : Cells) → mine p (pieces r cs) ≡ pieces p cs
   mine_of_both = grind (arith, Belongs, belongs, kept_pieces, to_first, to_none, to_second)
 
-  -- and the others the second one's
+  -- of the pieces of both those of others than the first are the second one's
   pub others_of_both : (cs : Cells) → others p (pieces r cs) ≡ pieces q cs
   others_of_both = kept_pieces p q r (λ o. not (is_own p o)) (λ k. by_owner (belongs u))
     where
@@ -341,7 +341,7 @@ module _ {env : Variables} {A B : Type 0} {first : Outcome A} {rest : Outcome B}
   together : Union q r both
   together = either_union lf.own lr.own apart
 
-  -- and the other way
+  -- a value of both on the pieces of both is one of each on its own
   each_value : (cs : Cells) {v : A × B} → value (pieces both cs) v
       → fv (pieces q cs) v.0 × read.value (pieces r cs) v.1
   each_value cs h = (rw (← mine_of_both together cs) h.0, rw (← others_of_both together cs) h.1)

@@ -35,7 +35,8 @@ use Rattle.bpaf_exact.specs.Flat.{ClosedValue, ErrorClass, ClosedEval, closed_er
 use Rattle.bpaf_exact.specs.Flat.{fallback_memory, optional_memory, answer_closure, fallback_given}
 use Rattle.bpaf_exact.specs.Flat.{fallback_no, fallback_ok, map_closure, NonePresent, SingleValue}
 use Rattle.bpaf_exact.specs.Flat.{FieldsLaw, IsWholeIn, Variables, SingleLaw, closed_no, OfMemory}
-use Rattle.bpaf_exact.specs.Flat.{error_class, repeated, KeepsTo, ReadOff, Refused, OwnList, Closure}
+use Rattle.bpaf_exact.specs.Flat.{error_class, repeated, KeepsTo, ReadOff, Refused, OwnList}
+use Rattle.bpaf_exact.specs.Flat.{Closure}
 use Rattle.bpaf_exact.specs.Flat.{Decides, Before, ByName, Caught, Groups, LastOf, Gap}
 use Rattle.bpaf_exact.specs.ProgramForm.{program_dressed, are_words_apart, before_commands, FormLaw}
 use Rattle.bpaf_exact.specs.ProgramForm.{product_reading, program_choice, program_closed, completed}
@@ -56,7 +57,7 @@ pub record AllowsNoMore (T : Type 0) (a b : Outcome T) : Type 0 where
   pub refusal : (s t : Situation) (e : Error) → b s (Err e) t
       → (d : Error) × a s (Err d) t × (class d ≡ class e)
 
--- so it is where it allows each answer itself
+-- an outcome allows no more where another allows each of its answers
 pub no_more : {T : Type 0} {a b : Outcome T}
     → ((s t : Situation) (r : Result T Error) → b s r t → a s r t) → AllowsNoMore T a b
 no_more f =
@@ -207,7 +208,7 @@ same_word : (word other : List ℕ) (k : Arg) → is_command_word word k ≡ tru
     → is_command_word other k ≡ true → word ≡ other
 same_word word other k = grind (arith, bytes_eq-Decides)
 
--- so it is a word of at most one of two lists of which none is among the other
+-- a word is one of at most one of two lists of which none is among the other
 pub words_apart : (words others : List (List ℕ)) → are_words_apart words others ≡ true
     → WordsApart words others
 words_apart words others apart k h = false_from_ne_true (is_one_of others k)
@@ -287,7 +288,7 @@ module _ {env : Variables} {T : Type 0} {outcome : Outcome T} {names : List Name
   whole_law {s = product wide named q fields} l = record { by = l.by }
   whole_law {s} l = program_alone_law (program_field_law {s = s} l)
 
-  -- a flat record keeps to the laws of a list of fields,
+  -- a flat record keeps to the laws of a list of fields
   pub record_law : {s : ProgramForm T} → is_record s ≡ true → FormLaw env outcome names words s
       → FieldsLaw env T outcome (product_roles (whole_program s))
       (product_reading (whole_program s))
@@ -408,7 +409,7 @@ narrower_program : {env : Variables} {V : Type 0} {a b : Outcome V} {r : Roles}
     → ProgramLaw env V b r value
 narrower_program n l = record { others = l.others; keeps = narrower n l.keeps }
 
--- and of any form
+-- an outcome that allows no more keeps to the same laws of any form
 pub narrower_form : {env : Variables} {T : Type 0} {a b : Outcome T} {names : List Names}
     {words : List (List ℕ)} {s : ProgramForm T} → AllowsNoMore T a b
     → FormLaw env a names words s → FormLaw env b names words s

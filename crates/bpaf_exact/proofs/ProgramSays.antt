@@ -208,7 +208,8 @@ cut_says {T} s {names} {c} {said} {cells} own h =
 
 -- a value of a whole program says so of the cells of its scope
 pub program_says : {T : Type 0} (s : ProgramForm T) {kind : SaidKind} {names : List Names}
-    {c : Bool} {said : Said T} {cells : CellsValue T} → OwnsKeys names s → Says names s kind c said cells
+    {c : Bool} {said : Said T} {cells : CellsValue T} → OwnsKeys names s
+    → Says names s kind c said cells
     → IsSaid (program_value s) (scope_said c (product_roles (whole_program s)) said cells)
 program_says {T} s {names} {c} {said} {cells} own h =
     by_whole (whole_program s) (whole_owns s own) c (record_says s h)

@@ -85,7 +85,7 @@ plain_word words plain word dashed = false_from_ne_true (list_any (λ own. bytes
     (both_hold (λ own. not (is_dashed own)) (λ own. bytes_eq word own) (λ own t same.
     true≢false (sym (rw ((bytes_eq-Decides word own).0 same) t) ∙ ap not dashed)) words plain)
 
--- so a key is none of the words
+-- a key is none of a list of plain words
 no_key : (words : List (List ℕ)) → are_plain words ≡ true → (k : Arg) → is_spelled k ≡ true
     → is_one_of words k ≡ true → is_key k ≡ false
 no_key words plain (Short c attached word) s h =
@@ -204,7 +204,7 @@ module _ {env : Variables} {T : Type 0} {inner : Outcome T} {r : Roles} {value :
       → value (cells (inside called s p)) v → opened_value (cells s) v
   from_behind {s} {p} at h = (cells (inside called s p), opens_cells called s p at, h)
 
-  -- and the other way
+  -- a value of what is behind the word is the command's
   value_behind : {s : Situation} {p : ℕ} {u : T} → IsOpenedAt own_words s p
       → opened_value (cells s) u → value (cells (inside called s p)) u
   value_behind {s} {p} at h = rw (← opens_one own_words h.1 (opens_cells called s p at)) h.2
@@ -233,12 +233,12 @@ module _ {env : Variables} {T : Type 0} {inner : Outcome T} {r : Roles} {value :
   command_refuses s t e w (command_missing none c) u h = absurd (opens_none s none h.0 h.1)
   command_refuses s t e w (command_memory c) u h = c
 
-  -- where no word is the first thing present there is no value,
+  -- where no word is the first thing present there is no value
   none_took : (s t : Situation) (v : T) → IsWholeIn env s → CommandEval T inner called s (Ok v) t
       → OpensNone own_words (cells s) → ⊥
   none_took s t v w (command_value {p} at i e) n = n _ (opens_cells called s p at)
 
-  -- and it is missing
+  -- where no word is the first thing present it is missing
   none_refuses : (s t : Situation) (e : Error) → IsWholeIn env s
       → CommandEval T inner called s (Err e) t → OpensNone own_words (cells s)
       → FindsNoCommand s (class e) t

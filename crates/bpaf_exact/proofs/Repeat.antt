@@ -58,7 +58,7 @@ module _ {env : Variables} {T : Type 0} {inner : Outcome T} {k : FieldKind} {q :
   abbrev own : Situation → List LinePiece
   own s = front (repeated k) (pieces q (cells s))
 
-  -- and those that it leaves
+  -- the pieces that a repeat leaves
   abbrev left : Situation → List LinePiece
   left s = back (repeated k) (pieces q (cells s))
 
@@ -72,7 +72,7 @@ module _ {env : Variables} {T : Type 0} {inner : Outcome T} {k : FieldKind} {q :
       × (back (repeated k) rest ≡ back (repeated k) os)
   by_group g = grind arith
 
-  -- and the other way
+  -- a group at the front of the pieces that a repeat takes is one at the front of all
   of_group : {os : List LinePiece} {v : T} {rest : List LinePiece}
       → group (front (repeated k) os) v rest
       → (more : List LinePiece) × group os v more × (rest ≡ front (repeated k) more)
@@ -198,7 +198,7 @@ module _ {env : Variables} {T : Type 0} {inner : Outcome T} {k : FieldKind} {q :
       let a = catch_none (stopped_by {s = s} {m = o.0.1} (stops_at o.0.3)) refused in
       rw o.1 (ended (Whole []) steady_refl a.1 refl (listed a.0 own_none))
 
-  -- so did turns from the first one on, until one stops
+  -- turns from the first one on, until one stops
   turns_took : (first : Bool) (vs : List T) {s m t : Situation} → IsWholeIn env s
       → Turns inner false first s vs m → TurnOutcome inner false (is_nil vs) m (Ok None) t
       → Took (Whole vs) s t
@@ -274,7 +274,7 @@ module _ {env : Variables} {T : Type 0} {inner : Outcome T} {k : FieldKind} {q :
       → Nothing os
   empty_list e x = grind arith
 
-  -- and no piece gives an empty list
+  -- no piece gives an empty list under a repeat
   empty_nothing : {os : List LinePiece} {vs : List T} → Nothing os → OwnList T group gap os vs
       → vs ≡ []
   empty_nothing x y = grind (arith, own_nil)

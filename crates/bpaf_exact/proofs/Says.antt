@@ -53,7 +53,7 @@ module _ {T : Type 0} (clones : T → T → Type 0) (present : T) where
   flag_gap_says (Some a) None v m = says_absent a refl refl refl m
   flag_gap_says absent (Some text) v m = says_variable text refl refl m
 
-  -- so it is with its field
+  -- the value of a flag's field says what the flag's does
   pub flag_says : {names : List Names} {cells : CellsValue T} (key : Key) (absent : Option T)
       (variables : Variables)
       → Says names (flag_field clones key present absent variables) (of_kind ByName) false
@@ -88,7 +88,7 @@ module _ {T : Type 0} (means : List ℕ → T → Type 0) where
   argument_gap_says None v m = absurd m
   argument_gap_says (Some text) v m = says_variable_text text refl refl m
 
-  -- so it is with its field
+  -- the value of an argument's field says what the argument's does
   pub argument_says : {names : List Names} {cells : CellsValue T} (argument : KeyWithValue)
       (variables : Variables)
       → Says names (argument_field means argument variables) (of_kind ByName) false
@@ -206,31 +206,31 @@ no_part : {X : Type 0} (xs ys : List X) → [] ≡ xs ++ ys → xs ≡ []
 no_part [] ys e = refl
 no_part (x ∷ xs) ys e = absurd cc
 
--- An argument's value needs a piece, where no variable of its is set,
+-- An argument's value needs a piece, where no variable of its is set.
 pub argument_needs : {T : Type 0} {means : List ℕ → T → Type 0} {last : Bool}
     {set : Option (List ℕ)} → set ≡ None → NeedsPiece (ArgumentSays means last set)
 argument_needs unset = grind (arith, never_nil)
 
--- a required flag's then,
+-- A required flag's value needs a piece, where no variable of its is set.
 pub flag_needs : {T : Type 0} {clones : T → T → Type 0} {present : T} {absent : Option T}
     {set : Option (List ℕ)} → absent ≡ None → set ≡ None
     → NeedsPiece (FlagSays clones present absent set)
 flag_needs required unset = grind arith
 
--- with a closure round it one that does inside,
+-- A value with a closure round it needs a piece where it does inside.
 pub made_needs : {A B : Type 0} {said : Said A} {f : Closure A B} → NeedsPiece said
     → NeedsPiece (MadeSays said f)
 made_needs needs = record { some = λ v made. needs.some made.from made.told }
 
--- a repeat that has values where each of them does,
+-- A repeat that has values needs a piece where each of them does.
 pub repeat_needs : {T : Type 0} {said : Said T} → NeedsPiece said → (vs : List T) → vs ≢ []
     → ¬ (RepeatSays said [] vs)
 repeat_needs needs vs some x = grind (arith, no_part)
 
--- and a last value then.
+-- A last value needs a piece where each value does.
 pub last_needs : {T : Type 0} {said : Said T} → NeedsPiece said → NeedsPiece (LastSays said)
 last_needs needs = grind (arith, never_nil, repeat_needs)
 
--- And a repeat without values has no piece.
+-- A repeat without values has no piece.
 pub no_values : {T : Type 0} {said : Said T} {os : List LinePiece} → RepeatSays said os [] → os ≡ []
 no_values x = grind arith

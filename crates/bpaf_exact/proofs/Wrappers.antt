@@ -127,7 +127,7 @@ module _ {env : Variables} {T : Type 0} {inner : Outcome T} {k : FieldKind} {q :
         ⊎ ((front k (pieces q (cells s)) ≡ []) × (gap.has ≡ false))) → FieldTook B k q value s v t
     own_took o kept own = grind (arith, none_given, single_took)
 
-    -- and what stands for none
+    -- what stands for no piece, as an own value
     given_took : {s : Situation} {v : B} → front k (pieces q (cells s)) ≡ []
         → value (front k (pieces q (cells s))) v → FieldTook B k q value s v s
     given_took {s} none given = record {
@@ -245,7 +245,7 @@ module _ {env : Variables} {T : Type 0} {outcome : Outcome T} {q : Roles}
       → SingleErr T ByName q (FrontOf T value) (gap_of value None) s c t
   alternative_err x = grind arith
 
-  -- so it keeps to the laws of one evaluation
+  -- an alternative keeps to the laws of one evaluation
   pub alternative_single : SingleLaw env T outcome ByName q (FrontOf T value) (gap_of value None)
   alternative_single = record {
     own = l.named;

@@ -101,7 +101,7 @@ abbrev pub front : FieldKind → List LinePiece → List LinePiece
 front ByName os = os
 front k os = portion k no_roles os
 
--- and what it leaves
+-- of pieces that are all its own, what a field leaves
 abbrev pub back : FieldKind → List LinePiece → List LinePiece
 back ByName os = []
 back k os = left k no_roles os
@@ -274,8 +274,8 @@ pub data SingleErr (T : Type 0) (k : FieldKind) (q : Roles) (group : Groups T) (
       → ((w : T) (rest : List LinePiece) → group (pieces q (cells s)) w rest → ⊥)
       → SingleErr T k q group gap s c t
 
--- a positional field without a repeat reads its first word alone, none behind what it stops at; and
--- so it does of all that a repeat of it takes
+-- a positional field without a repeat reads its first word alone, none behind what it stops at;
+-- of all that a repeat of it takes it reads the first too
 pub record WordByWord (T : Type 0) (stops : Bool) (group : Groups T) : Type 0 where
   pub by_front : (os : List LinePiece) (v : T) (rest : List LinePiece) → group os v rest
       → group (front (OneWord stops) os) v [] × (rest ≡ back (OneWord stops) os)

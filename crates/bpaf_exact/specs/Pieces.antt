@@ -3,7 +3,8 @@ use Rattle.std.specs.Prelude.{Bool, List, Option, Some, [], false, filter, if◌
 use Rattle.std.specs.Prelude.{None, not, ◌∷◌, ◌&&◌}
 use Rattle.std.specs.{Option.is_some, List.list_all, List.list_any}
 use Rattle.bpaf_base.specs.declared.arg.Arg.TheVariants.{PosWord}
-use Rattle.bpaf_base.specs.Items.{is_positional, value_text, is_among, is_text_among, is_key_of, is_key}
+use Rattle.bpaf_base.specs.Items.{is_positional, value_text, is_among, is_text_among, is_key_of}
+use Rattle.bpaf_base.specs.Items.{is_key}
 use Rattle.bpaf_base.specs.declared.arg.Arg.{Arg}
 use Rattle.bpaf_doc.specs.Names.{Names}
 

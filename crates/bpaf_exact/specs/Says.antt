@@ -156,7 +156,7 @@ abbrev pub EachOwn : Roles → List LinePiece → Type 0
 EachOwn q [] = Unit {0}
 EachOwn q (o ∷ os) = (is_own q o ≡ true) × EachOwn q os
 
--- so it is of a named field
+-- each piece is a named field's own
 abbrev pub AllOwn : FieldKind → Roles → List LinePiece → Type 0
 AllOwn ByName q os = EachOwn q os
 AllOwn k q os = Unit {0}
@@ -256,7 +256,7 @@ pub record FieldsSay {V : Type 0} (names : List Names) (form : ProgramForm V) (i
 abbrev pub Alike : {T X : Type 0} → (T → X) → (T → Type 0) → Type 0
 Alike {T = T} see value = (v w : T) → value v → value w → see v ≡ see w
 
--- so do those of the same group of pieces, and the same pieces are left
+-- all values of the same group of pieces look alike, and the same pieces are left
 abbrev pub OneGroup : {T X : Type 0} → (T → X) → Groups T → Type 0
 OneGroup {T = T} see group = (os rest others : List LinePiece) (v w : T) → group os v rest
     → group os w others → (see v ≡ see w) × (rest ≡ others)

@@ -12,14 +12,14 @@ module _ {P T : Type 0} (of : P → Grammar T) where
   nested_more g [] q = refl
   nested_more g (p ∷ ps) q = nested_more (choice g (of p)) ps q
 
-  -- so are its answers
+  -- the answers of a choice with one parser more behind it
   pub answer_more : (g : Grammar T) (ps : List P) (q : P) (s : Situation) (r : Result T Error)
       (t : Situation) → outcome_of (choice (Nested choice of g ps) (of q)) s r t
       → outcome_of (Nested choice of g (ps ++ q ∷ [])) s r t
   answer_more g [] q s r t o = o
   answer_more g (p ∷ ps) q s r t o = answer_more (choice g (of p)) ps q s r t o
 
-  -- and it is shown last
+  -- the shape of a choice with one parser more behind it
   pub shown_more : (g : Grammar T) (ps : List P) (q : P) (shape : Shape)
       → describes_of (choice (Nested choice of g ps) (of q)) shape
       → describes_of (Nested choice of g (ps ++ q ∷ [])) shape

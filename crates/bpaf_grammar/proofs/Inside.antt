@@ -1,28 +1,25 @@
 -- What a command leaves of its scope, and that a failure which it hands on is that of its own run
 -- inside.
 use Rattle.std.proofs.Common.{◌≡◌, ℕ, Bool, true, false, Result, Ok, Err, ⊎_elim, sym, true≢false}
+use Rattle.bpaf_grammar.specs.Command.{ended, missing, no_memory, value, EitherCommandOutcome}
+use Rattle.bpaf_grammar.specs.Command.{failed, no_path, unnamed, Attempts, first_fails}
+use Rattle.bpaf_grammar.specs.Command.{second_fails, retry_memory, CommandOutcome, nothing_left}
 use Rattle.std.proofs.Common.{◌+◌, refl, subst}
 use Rattle.std.specs.Result.{IfErr}
 use Rattle.bpaf_doc.specs.Shape.{Part, Shape}
-use Rattle.bpaf_line.specs.declared.failure.ParseFailure.{ParseFailure}
+use Rattle.bpaf_line.specs.{declared.failure.ParseFailure.ParseFailure, declared.error.Error.Error}
 use Rattle.bpaf_line.specs.Situation.{Situation, with_scope}
-use Rattle.bpaf_line.specs.{declared.error.Error.Error}
 use Rattle.bpaf_line.specs.declared.error.Message.{Message}
 use Rattle.bpaf_keys.specs.Info.{RunInfo}
-use Rattle.bpaf_laws.specs.Adjacent.{IsStretch}
 use Rattle.bpaf_laws.specs.Command.{Called, IsOpenedAt, LeavesNothing, inside, opening_words}
 use Rattle.bpaf_laws.specs.{Reading.Outcome, Reading.Readings, Laws.Lawful, Laws.newly}
-use Rattle.bpaf_grammar.specs.Command.{ended, missing, no_memory, value, EitherCommandOutcome}
-use Rattle.bpaf_grammar.specs.Command.{failed, no_path, unnamed}
-use Rattle.bpaf_grammar.specs.Command.{Attempts, first_fails, second_fails}
-use Rattle.bpaf_grammar.specs.Command.{wants_memory, CommandOutcome, nothing_left, IsMissingPart}
-use Rattle.bpaf_grammar.specs.{Ending.EndsRun, Refusals.FailsInside, Refusals.NamesInside}
-use Rattle.bpaf_grammar.specs.Refusals.{StartsInside}
-use Rattle.bpaf_grammar.proofs.Naming.{run_is_named}
-use Rattle.bpaf_grammar.specs.AdjacentLaws.{either_lawful}
+use Rattle.bpaf_laws.specs.Adjacent.{IsStretch}
+use Rattle.bpaf_grammar.specs.Refusals.{FailsInside, NamesInside, StartsInside}
+use Rattle.bpaf_grammar.specs.{Ending.EndsRun, Ending.Ending, Ending.LawfulEnding, Run.Runs}
 use Rattle.bpaf_grammar.specs.CommandLaws.{command_lawful, run_empty}
-use Rattle.bpaf_grammar.specs.{Ending.Ending, Ending.LawfulEnding, Run.Runs}
-use Rattle.bpaf_parts.specs.Failures.{end_message}
+use Rattle.bpaf_grammar.specs.{AdjacentLaws.either_lawful, Command.IsMissingPart}
+use Rattle.bpaf_line.specs.Failure.{end_message}
+use Rattle.bpaf_grammar.proofs.Naming.{run_is_named}
 use Rattle.bpaf_laws.proofs.CommandLaws.{leaves_nothing}
 use Rattle.bpaf_line.specs.declared.failure.ParseFailure.TheVariants as failure
 
@@ -57,7 +54,7 @@ module _ {T : Type 0} {inner : Outcome T} {reads : Readings T} (law : Lawful T i
   abbrev Names : Bool → Message → Type 0
   Names adjacent = NamesInside adjacent called inner describes info s
 
-  -- so does the end of a run inside
+  -- the end of a run inside names where it ran
   end_names : (adjacent : Bool) (p : ℕ) → IsOpenedAt (opening_words called) s p
       → (start : Situation) → StartsInside adjacent (inside called s p) start → (f : ParseFailure)
       → (t : Situation) → Runs T inner (EndsRun describes info) start (Err f) t
@@ -86,9 +83,10 @@ module _ {T : Type 0} {inner : Outcome T} {reads : Readings T} (law : Lawful T i
       → Names true (end_message f)
   attempts_name p at f u (first_fails g end t r w run ran (nothing_left told taken)) =
       end_names true p at (with_scope (inside called s p) (p + 1) end) (end, run, refl) g t ran
-  attempts_name p at f u (first_fails g end t r w run ran (second_fails h stop x told left again other)) =
+  attempts_name p at f u (first_fails g end t r w run ran
+      (second_fails h stop x told left again other)) =
       end_names true p at (with_scope (inside called s p) (p + 1) end) (end, run, refl) g t ran
-  attempts_name p at f u (first_fails g end t r w run ran wants_memory) = tt
+  attempts_name p at f u (first_fails g end t r w run ran retry_memory) = tt
 
   module _ (shows : Part → Type 0) where
     -- that its part is missing is the answer of no run inside
@@ -109,7 +107,7 @@ module _ {T : Type 0} {inner : Outcome T} {reads : Readings T} (law : Lawful T i
     names_inside true t e (unnamed told none is) = missing_names true e.0 is
     names_inside true t e (no_path told p at is) = subst (Names true) (sym is) tt
 
-    -- so does each answer that hands it on
+    -- each answer that hands on a failure of the run inside names where that ran
     pub answer_names_inside : (adjacent : Bool) (r : Result T Error) (t : Situation)
         → EitherCommandOutcome adjacent T inner (EndsRun describes info) called shows s r t
         → IfErr r (λ e. Names adjacent e.0)

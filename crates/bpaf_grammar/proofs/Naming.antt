@@ -1,25 +1,21 @@
 -- Each refusal of a run is one of the twelve.
-use Rattle.std.proofs.Common.{◌≡◌, true, Result, Ok, Err, refl}
-use Rattle.std.proofs.Common.{IsErrAnd, arith, false}
-use Rattle.std.proofs.Common.{Some, None}
+use Rattle.bpaf_grammar.specs.Ending.{EndsRun, ShowsHelp, Tells, memory, passed_on, refused, usage}
+use Rattle.std.proofs.Common.{◌≡◌, true, Result, Ok, Err, refl, IsErrAnd, arith, false, Some, None}
 use Rattle.std.specs.Result.{IfErr}
-use Rattle.bpaf_line.specs.Situation.{Situation, beginning}
-use Rattle.bpaf_line.specs.declared.failure.ParseFailure.{ParseFailure}
+use Rattle.bpaf_line.specs.{declared.failure.ParseFailure.ParseFailure, declared.error.Error.Error}
 use Rattle.bpaf_line.specs.declared.error.Message.TheVariants.{Memory}
+use Rattle.bpaf_line.specs.Situation.{Situation, beginning}
 use Rattle.bpaf_line.specs.{Messages.is_memory, Messages.is_answer, declared.error.Message.Message}
-use Rattle.bpaf_line.specs.{declared.error.Error.Error, Rendering.Renders}
+use Rattle.bpaf_messages.specs.Leftover.{IsLeftover, conflict, not_expected, only_once}
+use Rattle.bpaf_messages.specs.Rendering.{Renders}
 use Rattle.bpaf_keys.specs.{declared.info.ExtraParams.ExtraParams, Info.RunInfo, Info.ExtraOutcome}
 use Rattle.bpaf_doc.specs.Shape.{Shape}
-use Rattle.bpaf_laws.specs.Laws.{Lawful, NamesAnswer}
-use Rattle.bpaf_laws.specs.{Reading.Outcome, Reading.Readings, Laws.Refusal, Laws.refusal_of}
-use Rattle.bpaf_words.specs.Line.{Known}
-use Rattle.bpaf_words.specs.{Arguments.Given}
-use Rattle.bpaf_grammar.specs.Run.{Runs, RunsWords, ran, no_line, no_memory}
-use Rattle.bpaf_grammar.specs.Ending.{EndsRun, ShowsHelp}
-use Rattle.bpaf_grammar.specs.Ending.{Tells, memory, passed_on, refused, usage, Shows}
-use Rattle.bpaf_grammar.specs.Ending.{shows_help_page, leftover_is_told}
-use Rattle.bpaf_messages.specs.Leftover.{IsLeftover, conflict, not_expected, only_once}
+use Rattle.bpaf_laws.specs.Laws.{Lawful, NamesAnswer, Refusal, refusal_of}
+use Rattle.bpaf_laws.specs.Reading.{Outcome, Readings}
+use Rattle.bpaf_words.specs.{Arguments.Given, Line.Known}
 use Rattle.bpaf_grammar.specs.Refusals.{IsOneOfTwelve, without_memory, FailsAs, IsToldOf}
+use Rattle.bpaf_grammar.specs.Ending.{Shows, shows_help_page, leftover_is_told}
+use Rattle.bpaf_grammar.specs.Run.{Runs, RunsWords, ran, no_line, no_memory}
 use Rattle.bpaf_laws.proofs.Keeping.{name_of, shows_nothing}
 use Rattle.bpaf_line.specs.declared.failure.ParseFailure.TheVariants as failure
 use Rattle.bpaf_laws.specs.Laws as names
@@ -44,7 +40,7 @@ module _ {T : Type 0} (inner : Outcome T) (describes : Shape → Type 0) (info :
     wanting_is_named : IsAnyNamed failure.Memory
     wanting_is_named = (names.no_memory, name.wanting)
 
-    -- and help where nothing was there to read
+    -- help where nothing was there to read has a name
     usage_is_named : (e : Error) (left : Situation) (f : ParseFailure) → inner s (Err e) left
         → shows_help_page info e.0 s ≡ true → ShowsHelp describes info false left f → IsAnyNamed f
     usage_is_named e left failure.Memory came wanted shows = wanting_is_named
@@ -54,7 +50,7 @@ module _ {T : Type 0} (inner : Outcome T) (describes : Shape → Type 0) (info :
 
     module _ (m : Message) (left : Situation) (spared : is_memory m ≡ false)
         (plain : is_answer m ≡ false) (is_told : IsToldOf inner s m left) where
-      -- so has what was asked for
+      -- what was asked for has a name
       asked_is_named : (asked : ExtraParams) (seen : Situation) (f : ParseFailure)
           → ExtraOutcome info left (Ok asked) seen → Shows describes info asked seen f
           → IsAnyNamed f
@@ -94,7 +90,8 @@ module _ {T : Type 0} (inner : Outcome T) (describes : Shape → Type 0) (info :
     refused_is_named m e left f t came is answers
         (ending.usage other before given after spared wanted shows) =
         usage_is_named e left f came (rw is wanted) shows
-    refused_is_named m e left f t came is answers (ending.passed_on given before after spared none) =
+    refused_is_named m e left f t came is answers
+        (ending.passed_on given before after spared none) =
         (answers.0, name.handed_on answers.0 e left f came is answers.1)
     refused_is_named m e left f t came is answers
         (ending.refused other before middle given after spared none plain tells) =

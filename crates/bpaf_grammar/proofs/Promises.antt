@@ -1,50 +1,48 @@
 -- Each answer of a parser keeps what its grammar promises.
-use Rattle.std.proofs.Common.{Option, Result, false, arith, true, refl, Bool, Err}
-use Rattle.std.proofs.Common.{Ok, List, ℕ}
-use Rattle.std.specs.Result.{IfErr}
-use Rattle.bpaf_line.specs.declared.error.Message.TheVariants.{Memory, ParseFailed}
-use Rattle.bpaf_line.specs.{declared.error.Error.Error, declared.error.Message.Message}
-use Rattle.bpaf_line.specs.{Situation.Situation}
-use Rattle.bpaf_text.specs.Named.{KeyWithValue}
 use Rattle.bpaf_laws.specs.Combinators.{FallbackOutcome, Gives, GuardOutcome, MapOutcome}
-use Rattle.bpaf_laws.specs.Combinators.{ParseOutcome}
-use Rattle.bpaf_laws.specs.Laws.{DefaultTakesNothing, Spares, WithoutMemory}
 use Rattle.bpaf_laws.specs.Leaves.{ArgumentFails, ArgumentOutcome, FailsKeyFirst}
-use Rattle.bpaf_laws.specs.{Leaves.KeyBeforeEnvironment, Reading.Outcome}
-use Rattle.bpaf_laws.proofs.ArgumentLaws.{fault_first, key_first, refused_first}
-use Rattle.bpaf_laws.proofs.AdjacentLaws.{group_takes_stretch, spared_group}
-use Rattle.bpaf_laws.proofs.ChoiceLaws.{choice_spared, leftmost_is_chosen}
-use Rattle.bpaf_laws.proofs.CombinatorLaws.{collect_bounded, many_bounded, some_bounded}
-use Rattle.bpaf_laws.proofs.{ProductLaws.product_spares}
 use Rattle.bpaf_laws.proofs.Sparing.{none_takes_nothing, spared_collect, spared_count, spared_last}
-use Rattle.bpaf_laws.proofs.Sparing.{spared_many, spared_some, spared_step}
-use Rattle.bpaf_grammar.specs.{Ending.run_ending, Laws.lawful_of, Laws.spares_fields, Own.MadeOutcome}
-use Rattle.bpaf_grammar.specs.Grammar.{Grammar, Look, Repeat, Step, argument}
-use Rattle.bpaf_grammar.specs.Grammar.{choice, closed, collect, command, count, default_gives}
-use Rattle.bpaf_grammar.specs.Grammar.{describes_of, dressed, fallback, flag, stretch, guarded, hide, kept}
-use Rattle.bpaf_grammar.specs.Grammar.{last, look_outcome, made, many, mapped, only, optional}
-use Rattle.bpaf_grammar.specs.Grammar.{outcome_of, own, parsed, product, repeat, repeat_outcome}
-use Rattle.bpaf_grammar.specs.Grammar.{some, spared_of, step_outcome, word}
-use Rattle.bpaf_grammar.specs.Positional.{FaultsWordAlone, PositionalOutcome}
-use Rattle.bpaf_grammar.specs.declared.position.Position.{Position}
+use Rattle.bpaf_grammar.specs.Grammar.{Grammar, Look, Repeat, Step, argument, choice, closed}
+use Rattle.bpaf_grammar.specs.Grammar.{collect, command, count, default_gives, describes_of}
+use Rattle.bpaf_grammar.specs.Grammar.{dressed, fallback, flag, stretch, guarded, hide, kept, last}
+use Rattle.bpaf_grammar.specs.Grammar.{look_outcome, made, many, mapped, only, optional, outcome_of}
+use Rattle.bpaf_grammar.specs.Grammar.{own, parsed, product, repeat, repeat_outcome, some}
 use Rattle.bpaf_grammar.specs.Promises.{CommandLeavesNothing, CommandNamesItsOwn}
 use Rattle.bpaf_grammar.specs.Promises.{DefaultsTakeNothing, KeyIsFirst, LeftmostIsAnswered}
 use Rattle.bpaf_grammar.specs.Promises.{MemoryIsNeverCaught, RepeatIsBounded, TakesOneStretch}
-use Rattle.bpaf_grammar.specs.Promises.{is_bounded_by}
-use Rattle.bpaf_grammar.specs.Run.{FaultsTextAlone}
+use Rattle.std.proofs.Common.{Option, Result, false, arith, true, refl, Bool, Err, Ok, List, ℕ}
+use Rattle.std.specs.Result.{IfErr}
+use Rattle.bpaf_line.specs.declared.error.Message.TheVariants.{Memory, ParseFailed}
+use Rattle.bpaf_line.specs.{declared.error.Message.Message, declared.error.Error.Error}
+use Rattle.bpaf_line.specs.Situation.{Situation}
+use Rattle.bpaf_text.specs.Named.{KeyWithValue}
+use Rattle.bpaf_laws.specs.Laws.{DefaultTakesNothing, Spares, WithoutMemory}
+use Rattle.bpaf_laws.specs.{Leaves.KeyBeforeEnvironment, Combinators.ParseOutcome, Reading.Outcome}
+use Rattle.bpaf_laws.proofs.CombinatorLaws.{collect_bounded, many_bounded, some_bounded}
+use Rattle.bpaf_laws.proofs.ArgumentLaws.{fault_first, key_first, refused_first}
+use Rattle.bpaf_laws.proofs.Sparing.{spared_many, spared_some, spared_step}
+use Rattle.bpaf_laws.proofs.AdjacentLaws.{group_takes_stretch, spared_group}
+use Rattle.bpaf_laws.proofs.ChoiceLaws.{choice_spared, leftmost_is_chosen}
+use Rattle.bpaf_laws.proofs.ProductLaws.{product_spares}
+use Rattle.bpaf_grammar.specs.Positional.{FaultsWordAlone, PositionalOutcome}
+use Rattle.bpaf_grammar.specs.Grammar.{spared_of, step_outcome, word}
+use Rattle.bpaf_grammar.specs.{declared.position.Position.Position, Promises.is_bounded_by}
+use Rattle.bpaf_grammar.specs.{Laws.lawful_of, Laws.spares_fields, Run.FaultsTextAlone}
+use Rattle.bpaf_grammar.specs.{Ending.run_ending, Own.MadeOutcome}
 use Rattle.bpaf_grammar.proofs.Inside.{answer_names_inside, plain_leaves_nothing, takes_one_stretch}
 use Rattle.bpaf_grammar.proofs.Sparing.{flag_clones_nothing, spared_either}
 
 -- Want of memory is never caught.
 
 -- an argument tells no fault of a text that means a value
-text_faults_alone : {T : Type 0} (means : List ℕ → T → Type 0) (key : KeyWithValue) (s t : Situation)
+text_faults_alone : {T : Type 0} (means : List ℕ → T → Type 0) (key : KeyWithValue)
+    (s t : Situation)
     (r : Result T Error) → ArgumentOutcome means key s r t → IfErr r (FaultsTextAlone means key s t)
 text_faults_alone means key s t (Ok v) o = tt
 text_faults_alone means key s t (Err e) o = λ place fault is.
     let failed = rw is at o in (failed.0, failed.1, failed.2.0)
 
--- nor does a word
+-- a word tells no fault of a text that means a value
 word_faults_alone : {T : Type 0} (means : List ℕ → T → Type 0) (position : Position)
     (metavar : List ℕ) (s t : Situation) (r : Result T Error)
     → PositionalOutcome means position metavar s r t → IfErr r (FaultsWordAlone means s t)
@@ -140,7 +138,8 @@ pub repeat_is_bounded : {T : Type 0} (g : Grammar T) (s t : Situation) (r : Resu
     → outcome_of g s r t → RepeatIsBounded g s r t
 repeat_is_bounded (repeat f g) s t r o = bounded f r o
   where
-    bounded : {B : Type 0} (f : Repeat _ B) (r : Result B Error) → repeat_outcome f (outcome_of g) s r t
+    bounded : {B : Type 0} (f : Repeat _ B) (r : Result B Error)
+        → repeat_outcome f (outcome_of g) s r t
         → is_bounded_by f (outcome_of g) s r t
     bounded (many catch) r o = many_bounded (lawful_of g) catch s t r o
     bounded (some catch message) r o = some_bounded (lawful_of g) catch s t message r o

@@ -1,23 +1,24 @@
 -- Commands that may be adjacent keep to the laws where their inner parsers do.
+use Rattle.bpaf_grammar.specs.Command.{AdjacentOutcome, Attempt, Attempts, Retry, counted, failed}
+use Rattle.bpaf_grammar.specs.Command.{first_counts, first_fails, no_path, nothing_left}
+use Rattle.bpaf_grammar.specs.Command.{second_counts, second_fails, unnamed, retry_memory}
+use Rattle.bpaf_grammar.specs.CommandLaws.{command_lawful, names_end, names_missing, run_empty}
 use Rattle.std.specs.Prelude.{◌≡◌, ℕ, ◌+◌, ◌<◌, ◌≤◌, Bool, true, false, None, Result, Ok, Err, refl}
 use Rattle.std.proofs.{Common.sym, Common.subst, Math.Nat.lt_trans}
 use Rattle.bpaf_doc.specs.Shape.{Part}
-use Rattle.bpaf_line.specs.declared.failure.ParseFailure.{ParseFailure}
 use Rattle.bpaf_line.specs.Situation.{Situation, is_open, with_current, with_scope, IsStretchFrom}
-use Rattle.bpaf_line.specs.{declared.error.Message.TheVariants.Memory, declared.error.Error.Error}
-use Rattle.bpaf_laws.specs.Command.{Called, CommandReads, inside, opening_words}
+use Rattle.bpaf_line.specs.{declared.failure.ParseFailure.ParseFailure, declared.error.Error.Error}
+use Rattle.bpaf_line.specs.declared.error.Message.TheVariants.{Memory}
 use Rattle.bpaf_laws.specs.Laws.{Keeps, Lawful, Reads, HasSomeName, NamesAnswer, no_memory, wanting}
+use Rattle.bpaf_laws.specs.Command.{Called, CommandReads, inside, opening_words}
 use Rattle.bpaf_laws.specs.{Reading.Outcome, Reading.Readings, Adjacent.StretchReads}
-use Rattle.bpaf_grammar.specs.Command.{AdjacentOutcome, Attempt, Attempts, Retry, counted, failed}
-use Rattle.bpaf_grammar.specs.Command.{first_counts, first_fails, no_path, nothing_left, second_counts}
-use Rattle.bpaf_grammar.specs.Command.{second_fails, unnamed, wants_memory, EitherCommandOutcome}
-use Rattle.bpaf_grammar.specs.CommandLaws.{command_lawful, names_end, names_missing, run_empty}
 use Rattle.bpaf_grammar.specs.CommandLaws.{run_read, runs_has_name, runs_keeps}
-use Rattle.bpaf_grammar.specs.{Ending.Ending, Ending.LawfulEnding, Command.EitherCommandReads}
-use Rattle.bpaf_laws.proofs.CommandLaws.{keeps_inside, keeps_opened}
-use Rattle.bpaf_laws.proofs.AdjacentLaws.{adjacent_read, keeps_stretch}
+use Rattle.bpaf_grammar.specs.Command.{EitherCommandOutcome, EitherCommandReads}
+use Rattle.bpaf_line.specs.Failure.{end_message}
+use Rattle.bpaf_grammar.specs.Ending.{Ending, LawfulEnding}
 use Rattle.bpaf_laws.proofs.Keeping.{keeps_refl, keeps_trans, keeps_unset, names_same}
-use Rattle.bpaf_parts.specs.Failures.{end_message}
+use Rattle.bpaf_laws.proofs.AdjacentLaws.{adjacent_read, keeps_stretch}
+use Rattle.bpaf_laws.proofs.CommandLaws.{keeps_inside, keeps_opened}
 
 -- the attempt that a value comes of: it was over present places
 pub record Counted (T : Type 0) (inner : Outcome T) (ending : Ending) (s : Situation) (from : ℕ)
@@ -62,7 +63,7 @@ module _ {T : Type 0} {inner : Outcome T} {ending : Ending} {reads : Readings T}
       attempt_keeps s from end (Err f) t run ran
   retry_keeps s from end f g t u run ran (second_fails h stop w told left again other) =
       attempt_keeps s from end (Err f) t run ran
-  retry_keeps s from end f g t u run ran wants_memory = keeps_refl s
+  retry_keeps s from end f g t u run ran retry_memory = keeps_refl s
 
   -- what attempts that fail keep
   attempts_keep : (s : Situation) (from : ℕ) (g : ParseFailure) (u : Situation)
@@ -78,7 +79,7 @@ module _ {T : Type 0} {inner : Outcome T} {ending : Ending} {reads : Readings T}
   attempts_has_name s from g u
       (first_fails f end t r w run ran (second_fails h stop x told left again other)) =
       runs_has_name law ends (with_scope s from end) f t ran
-  attempts_has_name s from g u (first_fails f end t r w run ran wants_memory) = (no_memory, wanting)
+  attempts_has_name s from g u (first_fails f end t r w run ran retry_memory) = (no_memory, wanting)
 
   module _ (called : Called) (shows : Part → Type 0) where
     -- what an adjacent command answers is a reading, whose share is one stretch

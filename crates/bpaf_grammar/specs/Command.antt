@@ -1,21 +1,19 @@
 -- What a command answers, also one that may be adjacent, and then reads the items behind its word
 -- without a gap.
 use Rattle.std.specs.Prelude.{◌≡◌, ◌⊎◌, ℕ, List, Some, None, Result, Ok, Err, ◌+◌, Bool, true}
-use Rattle.std.specs.Prelude.{false, Option}
-use Rattle.bpaf_doc.specs.{Shape.Part, declared.doc.Piece.Piece}
-use Rattle.bpaf_line.specs.declared.failure.ParseFailure.{ParseFailure}
-use Rattle.bpaf_line.specs.Situation.{Situation, with_current, with_scope, IsStretchFrom}
-use Rattle.bpaf_line.specs.{declared.error.Error.Error, declared.error.Message.Message}
-use Rattle.bpaf_line.specs.{declared.missing.MissingItem.MissingItem, Taking.IsMissingIn}
-use Rattle.bpaf_laws.specs.Reading.{Outcome, Readings}
 use Rattle.bpaf_laws.specs.Command.{Called, IsNotOpened, IsOpenedAt, inside, opened, opening_words}
-use Rattle.bpaf_laws.specs.Command.{CommandReads}
+use Rattle.std.specs.Prelude.{false, Option}
+use Rattle.bpaf_doc.specs.{declared.doc.Piece.Piece, Shape.Part}
+use Rattle.bpaf_line.specs.Situation.{Situation, with_current, with_scope, IsStretchFrom}
+use Rattle.bpaf_line.specs.{declared.failure.ParseFailure.ParseFailure, declared.error.Error.Error}
+use Rattle.bpaf_line.specs.{declared.missing.MissingItem.MissingItem, Taking.IsMissingIn}
+use Rattle.bpaf_line.specs.declared.error.Message.{Message}
 use Rattle.bpaf_laws.specs.Adjacent.{AllTaken, IsFirstLeft, StretchReads}
+use Rattle.bpaf_laws.specs.{Reading.Outcome, Reading.Readings, Command.CommandReads}
 use Rattle.bpaf_keys.specs.Info.{RunInfo, short_descr}
-use Rattle.bpaf_parts.specs.Failures.{end_message}
-use Rattle.bpaf_grammar.specs.Ending.{Ending}
-use Rattle.bpaf_grammar.specs.{Run.Runs}
-pub use Rattle.bpaf_parts.specs.Failures.{IsTold, GivesBack}
+use Rattle.bpaf_line.specs.Failure.{end_message}
+use Rattle.bpaf_grammar.specs.{Ending.Ending, Run.Runs}
+pub use Rattle.bpaf_choice.specs.Branches.{IsTold, GivesBack}
 use Rattle.bpaf_line.specs.declared.error.Message.TheVariants as message
 use Rattle.bpaf_line.specs.declared.failure.ParseFailure.TheVariants as failure
 
@@ -58,7 +56,7 @@ pub data Retry (T : Type 0) (inner : Outcome T) (ending : Ending) (s : Situation
   second_fails : (g : ParseFailure) (stop : ℕ) (u : Situation) → IsTold f
       → IsFirstLeft t from end stop → Attempt T inner ending s from stop (Err g) u → IsTold g
       → Retry T inner ending s from end f t (Err f) t
-  wants_memory : Retry T inner ending s from end f t (Err failure.Memory) s
+  retry_memory : Retry T inner ending s from end f t (Err failure.Memory) s
 
 -- the attempts from a place on: one over the stretch of present places; if it fails, what follows
 pub data Attempts (T : Type 0) (inner : Outcome T) (ending : Ending) (s : Situation) (from : ℕ)

@@ -1,10 +1,11 @@
 -- Commands keep to the laws where their inner parsers do.
+use Rattle.bpaf_grammar.specs.Command.{CommandOutcome, IsMissingPart, ended, missing, no_memory}
 use Rattle.std.specs.Prelude.{◌≡◌, Some, None, Result, Ok, Err, refl}
 use Rattle.bpaf_doc.specs.Shape.{Part}
 use Rattle.bpaf_line.specs.declared.error.Message.TheVariants.{Memory, Missing}
-use Rattle.bpaf_line.specs.declared.failure.ParseFailure.{ParseFailure}
 use Rattle.bpaf_line.specs.Situation.{Context, Situation, open_count, with_current}
-use Rattle.bpaf_line.specs.{declared.error.Error.Error, declared.error.Message.Message}
+use Rattle.bpaf_line.specs.{declared.failure.ParseFailure.ParseFailure, declared.error.Error.Error}
+use Rattle.bpaf_line.specs.declared.error.Message.{Message}
 use Rattle.bpaf_laws.specs.Command.{Called, CommandReads, inside, opening_words}
 use Rattle.bpaf_laws.specs.Laws.{HasSomeName, NamesAnswer, Keeps, Lawful, Reads}
 use Rattle.bpaf_laws.specs.Reading.{Outcome, Readings}
@@ -12,9 +13,9 @@ use Rattle.bpaf_laws.proofs.CommandLaws.{inside_read, keeps_inside, keeps_opened
 use Rattle.bpaf_laws.proofs.Keeping.{keeps_trans, keeps_unset, names_same}
 use Rattle.std.proofs.Common.{⊎_elim}
 use Rattle.bpaf_grammar.specs.Run.{Runs, leftover, refused, value as run_value}
-use Rattle.bpaf_grammar.specs.Command.{CommandOutcome, IsMissingPart, ended, missing, no_memory, value}
+use Rattle.bpaf_line.specs.Failure.{end_message}
 use Rattle.bpaf_grammar.specs.Ending.{Ending, LawfulEnding}
-use Rattle.bpaf_parts.specs.Failures.{end_message}
+use Rattle.bpaf_grammar.specs.Command.{value}
 use Rattle.bpaf_line.specs.declared.failure.ParseFailure.TheVariants as failure
 
 -- after a value of a run nothing is present

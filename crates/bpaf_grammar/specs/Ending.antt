@@ -1,23 +1,22 @@
 -- How a run ends that has no value, and what its ends keep to.
 use Rattle.std.specs.Prelude.{◌≡◌, ◌==◌, Bool, true, false, not, ◌&&◌, List, Option, Some, None, Ok}
+use Rattle.bpaf_laws.specs.Laws.{ShowsVersion, HasSomeName, NamesAnswer, help, help_or_version}
 use Rattle.std.specs.Prelude.{Err, ⊤, IfSome, refl}
 use Rattle.bpaf_pages.specs.Help.{help_text}
 use Rattle.bpaf_doc.specs.{declared.doc.Piece.Piece, Print.Prints, Shape.Shape}
 use Rattle.bpaf_line.specs.Situation.{Context, Situation, open_count}
-use Rattle.bpaf_line.specs.Messages.{is_answer, is_memory}
 use Rattle.bpaf_line.specs.{declared.failure.ParseFailure.ParseFailure, declared.error.Error.Error}
-use Rattle.bpaf_line.specs.{declared.error.Message.Message, Rendering.Renders}
-use Rattle.bpaf_messages.specs.Leftover.{IsLeftover}
-use Rattle.bpaf_keys.specs.declared.info.ExtraParams.{ExtraParams}
+use Rattle.bpaf_line.specs.{Messages.is_answer, Messages.is_memory, declared.error.Message.Message}
+use Rattle.bpaf_messages.specs.{Leftover.IsLeftover, Rendering.Renders}
 use Rattle.bpaf_keys.specs.Info.{ExtraOutcome, extra_shape, RunInfo, page_texts}
-use Rattle.bpaf_laws.specs.Laws.{ShowsVersion, HasSomeName, NamesAnswer, help, help_or_version}
+use Rattle.bpaf_keys.specs.declared.info.ExtraParams.{ExtraParams}
 use Rattle.bpaf_laws.specs.Laws.{no_memory, Keeps, version}
 use Rattle.std.proofs.Common.{true≢false}
 use Rattle.bpaf_laws.proofs.Keeping.{keeps_refl, on_line, told_has_name}
-use Rattle.bpaf_parts.specs.Failures.{end_message}
+use Rattle.bpaf_line.specs.Failure.{end_message}
 use Rattle.bpaf_keys.proofs.Looking.{extra_lawful}
 pub use Rattle.bpaf_messages.specs.Leftover.{TellsNoLine}
-pub use Rattle.bpaf_parts.specs.Failures.{is_shown}
+pub use Rattle.bpaf_line.specs.Failure.{is_shown}
 use Rattle.bpaf_line.specs.declared.error.Message.TheVariants as message
 use Rattle.bpaf_line.specs.declared.failure.ParseFailure.TheVariants as failure
 use Rattle.bpaf_keys.specs.declared.info.ExtraParams.TheVariants as extra

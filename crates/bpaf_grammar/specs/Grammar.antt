@@ -1,34 +1,33 @@
--- The grammar of parsers: of what one is made. That tells what it answers, reads and shows, its short
--- names, its keys and the words of its commands.
+-- The grammar of parsers: of what one is made. That tells what it answers, reads and shows, its
+-- short names, its keys and the words of its commands.
 use Rattle.std.specs.Prelude.{Result, Option, length, false, Bool, true, List, ◌++◌, ◌≡◌, ◌∷◌}
-use Rattle.std.specs.Prelude.{if◌then◌else◌, [], Ok, ℕ}
-use Rattle.std.specs.{declared.alloc.AllocError.AllocError, Global.Vec}
-use Rattle.bpaf_doc.specs.{declared.meta.MetaInfo.MetaInfo, declared.doc.Piece.Piece, Names.Names}
-use Rattle.bpaf_doc.specs.Shape.{Part, Shape, Skip}
+use Rattle.bpaf_laws.specs.Combinators.{CollectOutcome, CountOutcome, DefaultDescribes, Gives}
+use Rattle.bpaf_laws.specs.Combinators.{is_nil, FallbackOutcome, GivesAnswer, GivesClone}
+use Rattle.bpaf_laws.specs.Combinators.{GuardOutcome, HideOutcome, LastOutcome, ListReads}
+use Rattle.bpaf_laws.specs.Combinators.{ManyDescribes, MapReads, ManyOutcome, MapOutcome}
+use Rattle.bpaf_laws.specs.Combinators.{OptionalDescribes, OptionalReads, ParseOutcome, PureOutcome}
+use Rattle.bpaf_laws.specs.Combinators.{PureReads, SectionDescribes, SomeDescribes, SomeOutcome}
+use Rattle.bpaf_laws.specs.Leaves.{ArgumentOutcome, ArgumentReads, FlagOutcome, FlagReads}
+use Rattle.bpaf_laws.specs.Product.{BothDescribes, BothOutcome, BothReads, FailFastOutcome}
+use Rattle.std.specs.{Prelude.if◌then◌else◌, Prelude.[], Prelude.Ok, Prelude.ℕ, Global.Vec}
+use Rattle.std.specs.declared.alloc.AllocError.{AllocError}
+use Rattle.bpaf_doc.specs.{Shape.Part, Shape.Shape, Shape.Skip, declared.meta.MetaInfo.MetaInfo}
+use Rattle.bpaf_doc.specs.{declared.doc.Piece.Piece, Names.Names}
 use Rattle.bpaf_words.specs.Line.{ShortNames}
 use Rattle.bpaf_text.specs.Named.{Named as Key, KeyWithValue}
-use Rattle.bpaf_laws.specs.Adjacent.{GroupDescribes, GroupOutcome, StretchReads}
 use Rattle.bpaf_laws.specs.Choice.{ChoiceDescribes, ChoiceOutcome, ChoiceReads, Nested, no_choice}
-use Rattle.bpaf_laws.specs.Combinators.{CollectOutcome, CountOutcome, DefaultDescribes, Gives, is_nil}
-use Rattle.bpaf_laws.specs.Combinators.{FallbackOutcome, GivesAnswer, GivesClone, GuardOutcome}
-use Rattle.bpaf_laws.specs.Combinators.{HideOutcome, LastOutcome, ListReads, ManyDescribes, MapReads}
-use Rattle.bpaf_laws.specs.Combinators.{ManyOutcome, MapOutcome, OptionalDescribes, OptionalReads}
-use Rattle.bpaf_laws.specs.Combinators.{ParseOutcome, PureOutcome, PureReads, SectionDescribes}
-use Rattle.bpaf_laws.specs.Combinators.{SomeDescribes, SomeOutcome, TitledDescribes, TurnOutcome}
-use Rattle.bpaf_laws.specs.Combinators.{UsageDescribes}
-use Rattle.bpaf_laws.specs.{Command.Called, Command.CommandDescribes, Command.CommandPart}
-use Rattle.bpaf_laws.specs.{Command.opening_words, Laws.WithoutMemory, Laws.joined_shorts}
-use Rattle.bpaf_laws.specs.Laws.{no_shorts, of_arguments, of_flags}
-use Rattle.bpaf_laws.specs.Leaves.{ArgumentOutcome, ArgumentReads, FlagOutcome, FlagReads}
-use Rattle.bpaf_laws.specs.{Leaves.argument_shape, Leaves.flag_shape, Reading.Outcome}
-use Rattle.bpaf_laws.specs.Product.{BothDescribes, BothOutcome, BothReads, FailFastOutcome}
+use Rattle.bpaf_laws.specs.Laws.{WithoutMemory, joined_shorts, no_shorts, of_arguments, of_flags}
+use Rattle.bpaf_laws.specs.Command.{Called, CommandDescribes, CommandPart, opening_words}
+use Rattle.bpaf_laws.specs.Combinators.{TitledDescribes, TurnOutcome, UsageDescribes}
 use Rattle.bpaf_laws.specs.Product.{LastDescribes, ProductDescribes, ProductOutcome}
-use Rattle.bpaf_laws.specs.{Reading.Readings}
+use Rattle.bpaf_laws.specs.Adjacent.{GroupDescribes, GroupOutcome, StretchReads}
+use Rattle.bpaf_laws.specs.Leaves.{argument_shape, flag_shape}
+use Rattle.bpaf_laws.specs.Reading.{Outcome, Readings}
 use Rattle.bpaf_keys.specs.Info.{RunInfo}
-use Rattle.bpaf_grammar.specs.declared.position.Position.{Position}
-use Rattle.bpaf_grammar.specs.Command.{EitherCommandOutcome, EitherCommandReads}
-use Rattle.bpaf_grammar.specs.{Ending.EndsRun, Own.Own, Own.MadeOutcome, Leaves.refusal}
 use Rattle.bpaf_grammar.specs.Positional.{PositionalOutcome, PositionalReads, positional_shape}
+use Rattle.bpaf_grammar.specs.Command.{EitherCommandOutcome, EitherCommandReads}
+use Rattle.bpaf_grammar.specs.{declared.position.Position.Position, Own.Own, Own.MadeOutcome}
+use Rattle.bpaf_grammar.specs.{Leaves.refusal, Ending.EndsRun}
 
 -- what a closure makes of a value
 pub data Step : Type 0 → Type 0 → Type 1 where
@@ -212,7 +211,8 @@ repeat_reads (many {T = T} catch) reads =
     MapReads (List T) (Vec T) (ListReads reads) (λ values v. v.items ≡ values)
 repeat_reads (some {T = T} catch message) reads = MapReads (List T) (Vec T) (ListReads reads)
     (λ values v. (v.items ≡ values) × (is_nil values ≡ false))
-repeat_reads (collect {T = T} {C = C} catch fills) reads = MapReads (List T) C (ListReads reads) fills
+repeat_reads (collect {T = T} {C = C} catch fills) reads = MapReads (List T) C (ListReads reads)
+    fills
 repeat_reads (count {T = T}) reads =
     MapReads (List T) ℕ (ListReads reads) (λ values n. n ≡ length values)
 

@@ -1,38 +1,36 @@
 -- Each parser that a grammar tells of keeps to the laws, and shows its short names.
-use Rattle.bpaf_laws.specs.Combinators.{MapReads, NamesGiven}
-use Rattle.bpaf_laws.specs.Laws.{FieldsShowNames, Lawful, ShowsNames, Spares}
-use Rattle.bpaf_laws.specs.{Command.CommandPart, Reading.Outcome, Reading.Readings}
-use Rattle.bpaf_laws.proofs.{AdjacentLaws.group_lawful, ArgumentLaws.argument_lawful}
-use Rattle.bpaf_laws.proofs.ShownNames.{group_shows}
-use Rattle.bpaf_laws.proofs.ChoiceLaws.{choice_lawful}
+use Rattle.bpaf_laws.proofs.ShownNames.{group_shows, argument_shows, both_show, choice_shows}
+use Rattle.bpaf_laws.proofs.ShownNames.{command_shows, default_shows, flag_shows, last_shows}
+use Rattle.bpaf_laws.proofs.ShownNames.{many_shows, one_shape, optional_shows, product_shows}
 use Rattle.bpaf_laws.proofs.CombinatorLaws.{collect_lawful, count_lawful, fallback_lawful}
 use Rattle.bpaf_laws.proofs.CombinatorLaws.{guard_lawful, hide_lawful, last_lawful, made_lawful}
 use Rattle.bpaf_laws.proofs.CombinatorLaws.{many_lawful, map_lawful, names_answer, optional_lawful}
-use Rattle.bpaf_laws.proofs.CombinatorLaws.{parse_lawful, some_lawful}
-use Rattle.bpaf_laws.proofs.LeafLaws.{flag_lawful, pure_lawful}
-use Rattle.bpaf_laws.proofs.{Keeping.names_want, ProductLaws.both_lawful}
-use Rattle.bpaf_laws.proofs.ProductLaws.{both_spares, fail_fast_lawful, product_lawful}
-use Rattle.bpaf_laws.proofs.ShownNames.{argument_shows, both_show, choice_shows, command_shows}
-use Rattle.bpaf_laws.proofs.ShownNames.{default_shows, flag_shows, last_shows, many_shows, one_shape}
-use Rattle.bpaf_laws.proofs.ShownNames.{optional_shows, product_shows, section_shows, some_shows}
-use Rattle.bpaf_laws.proofs.ShownNames.{titled_shows, usage_shows}
-use Rattle.bpaf_grammar.specs.{AdjacentLaws.either_lawful, Ending.run_ending, Own.MadeOutcome}
 use Rattle.bpaf_grammar.specs.Grammar.{Default, FieldsGrammar, Grammar, GrammarOf, Look, Repeat}
-use Rattle.bpaf_grammar.specs.Grammar.{Step, stretch, alone, answered, argument, both, choice, cloned, closed}
-use Rattle.bpaf_grammar.specs.Grammar.{collect, command, count, default_gives}
+use Rattle.bpaf_grammar.specs.Grammar.{Step, stretch, alone, answered, argument, both, choice}
+use Rattle.bpaf_grammar.specs.Grammar.{cloned, closed, collect, command, count, default_gives}
 use Rattle.bpaf_grammar.specs.Grammar.{describes_of, dressed, fallback, fast_outcome_of, flag}
 use Rattle.bpaf_grammar.specs.Grammar.{guarded, hide, kept, last, look_describes, look_outcome}
 use Rattle.bpaf_grammar.specs.Grammar.{look_shorts, made, many, mapped, only, optional, outcome_of}
 use Rattle.bpaf_grammar.specs.Grammar.{own, parsed, product, reads_of, repeat, repeat_describes}
-use Rattle.bpaf_grammar.specs.Grammar.{repeat_outcome, repeat_reads, section, shorts_of, some, spared_of}
-use Rattle.bpaf_grammar.specs.Grammar.{step_outcome, step_reads, titled, usage, word}
+use Rattle.bpaf_grammar.specs.Grammar.{repeat_outcome, repeat_reads, section, shorts_of, some}
+use Rattle.bpaf_laws.specs.Laws.{FieldsShowNames, Lawful, ShowsNames, Spares}
+use Rattle.bpaf_laws.specs.{Combinators.MapReads, Combinators.NamesGiven, Command.CommandPart}
+use Rattle.bpaf_laws.specs.Reading.{Outcome, Readings}
+use Rattle.bpaf_laws.proofs.ProductLaws.{both_lawful, both_spares, fail_fast_lawful, product_lawful}
+use Rattle.bpaf_laws.proofs.ShownNames.{section_shows, some_shows, titled_shows, usage_shows}
+use Rattle.bpaf_laws.proofs.CombinatorLaws.{parse_lawful, some_lawful}
+use Rattle.bpaf_laws.proofs.{LeafLaws.flag_lawful, LeafLaws.pure_lawful, AdjacentLaws.group_lawful}
+use Rattle.bpaf_laws.proofs.{ArgumentLaws.argument_lawful, ChoiceLaws.choice_lawful}
+use Rattle.bpaf_laws.proofs.Keeping.{names_want}
+use Rattle.bpaf_grammar.specs.Grammar.{spared_of, step_outcome, step_reads, titled, usage, word}
 use Rattle.bpaf_grammar.specs.Positional.{positional_lawful, positional_shows}
+use Rattle.bpaf_grammar.specs.{AdjacentLaws.either_lawful, Ending.run_ending, Own.MadeOutcome}
 use Rattle.std.specs.Prelude.{Bool, refl}
 use Rattle.std.proofs.Common.{⊎_elim, inl, inr}
 use Rattle.bpaf_doc.specs.Shape.{Shape}
 use Rattle.bpaf_words.specs.Line.{ShortNames}
 
--- so it is of a closure round one that does
+-- a closure round a lawful parser keeps to the laws
 step_lawful : {A B : Type 0} (f : Step A B) {inner : Outcome A} {reads : Readings A}
     → Lawful A inner reads → Lawful B (step_outcome f inner) (step_reads f reads)
 step_lawful (mapped answers) law = map_lawful law answers
@@ -89,7 +87,7 @@ lawful_of (alone g) = lawful_of g
 lawful_of (both g h) = both_lawful (lawful_of g) (lawful_of h)
 lawful_of (product makes g) = product_lawful makes (lawful_of g)
 
--- and of fields of which a failing first one is the end
+-- the laws of fields of which a failing first one is the end
 pub fast_lawful_of : {fields : Bool} {T : Type 0} (g : GrammarOf fields T)
     → Lawful T (fast_outcome_of g) (reads_of g)
 fast_lawful_of (both g h) = fail_fast_lawful (lawful_of g) (lawful_of h)
@@ -130,8 +128,9 @@ mutual
   shows_of (stretch first g) = group_shows (shows_of g)
   shows_of (product makes g) = product_shows (fields_show g)
 
-  -- and those of fields
-  pub fields_show : {V : Type 0} (g : FieldsGrammar V) → FieldsShowNames (describes_of g) (shorts_of g)
+  -- whichever shapes fields show, these are their short names
+  pub fields_show : {V : Type 0} (g : FieldsGrammar V)
+      → FieldsShowNames (describes_of g) (shorts_of g)
   fields_show (alone g) = last_shows (shows_of g)
   fields_show (both g h) = both_show (shows_of g) (fields_show h)
 

@@ -1,19 +1,18 @@
 -- Leaves that no other kind is built of, as parsers of their own: an item by its text, the name of
 -- the program, a closure's answer, a refusal.
-use Rattle.std.specs.Prelude.{Result, Option, IfSome, String, false, Bool, true, List}
-use Rattle.std.specs.Prelude.{refl, Err, Ok, ◌≡◌, ℕ}
-use Rattle.std.specs.{declared.alloc.Global.Global, Result.IfErr}
-use Rattle.bpaf_doc.specs.{Shape.Any, Shape.Part, Shape.Shown, Shape.Skip, declared.doc.Piece.Piece}
+use Rattle.std.specs.Prelude.{Result, Option, IfSome, String, false, Bool, true, List, refl, Err}
 use Rattle.bpaf_line.specs.declared.error.Message.TheVariants.{PureFailed, ParseFail, Missing}
-use Rattle.bpaf_line.specs.{declared.error.Message.TheVariants.Memory, declared.error.Error.Error}
-use Rattle.bpaf_line.specs.{declared.error.Message.Message, Situation.Situation}
-use Rattle.bpaf_line.specs.Messages.{is_memory}
 use Rattle.bpaf_laws.specs.Combinators.{GivesAnswer, GivesRefusal, PureOutcome, PureReads}
-use Rattle.bpaf_laws.specs.{Combinators.PureWithOutcome, Laws.no_shorts}
 use Rattle.bpaf_laws.specs.Leaves.{AnyFails, AnyOutcome, AnyReads, AppnameOutcome, AppnameReads}
-use Rattle.bpaf_laws.specs.Leaves.{ArePassed, Looks, looked_at}
-use Rattle.bpaf_laws.proofs.{CombinatorLaws.names_answer, ShownNames.one_shape}
+use Rattle.std.specs.{Prelude.Ok, Prelude.◌≡◌, Prelude.ℕ, declared.alloc.Global.Global}
+use Rattle.std.specs.Result.{IfErr}
+use Rattle.bpaf_doc.specs.{Shape.Any, Shape.Part, Shape.Shown, Shape.Skip, declared.doc.Piece.Piece}
+use Rattle.bpaf_line.specs.{declared.error.Message.TheVariants.Memory, declared.error.Error.Error}
+use Rattle.bpaf_line.specs.{declared.error.Message.Message, Situation.Situation, Messages.is_memory}
+use Rattle.bpaf_laws.specs.{Leaves.ArePassed, Leaves.Looks, Leaves.looked_at, Laws.no_shorts}
+use Rattle.bpaf_laws.specs.Combinators.{PureWithOutcome}
 use Rattle.bpaf_laws.proofs.LeafLaws.{any_lawful, appname_lawful, pure_with_lawful, refusal_lawful}
+use Rattle.bpaf_laws.proofs.{CombinatorLaws.names_answer, ShownNames.one_shape}
 use Rattle.bpaf_grammar.specs.Own.{Own}
 use Rattle.std.proofs.Common.{true≢false, ◌∙◌, sym, ap, inl, inr}
 
@@ -21,8 +20,9 @@ use Rattle.std.proofs.Common.{true≢false, ◌∙◌, sym, ap, inl, inr}
 abbrev pub PassesAll : {T : Type 0} → Looks T → Bool → Situation → Error → Type 0
 PassesAll looks anywhere s e = is_memory e.0 ≡ false → ArePassed looks (looked_at anywhere s)
 
--- so it is of a parser that looks for an item
-pub any_passes_all : {T : Type 0} (looks : Looks T) (part : Part) (anywhere : Bool) (s t : Situation)
+-- a parser that looks for an item refuses where it passed by each item that it looks at
+pub any_passes_all : {T : Type 0} (looks : Looks T) (part : Part) (anywhere : Bool)
+    (s t : Situation)
     (r : Result T Error) → AnyOutcome looks part anywhere s r t
     → IfErr r (PassesAll looks anywhere s)
 any_passes_all looks part anywhere s t (Ok v) answered = tt
@@ -78,11 +78,12 @@ abbrev pub TellsAnswer : {T E : Type 0} → (Result T E → Type 0) → (E → O
 TellsAnswer {T} {E} answers shown e = is_memory e.0 ≡ false → (fault : E) × answers (Err fault)
     × ((text : List ℕ) × (e.0 ≡ PureFailed text) × IfSome (shown fault) (λ bytes. text ≡ bytes))
 
--- so it is of a closure's fault
+-- a leaf that answers what a closure does refuses with its fault, with the whole text
 pub answer_told : {T E : Type 0} (answers : Result T E → Type 0) (shown : E → Option (List ℕ))
     (r : Result T Error) → GivesAnswer answers shown r → IfErr r (TellsAnswer answers shown)
 answer_told answers shown (Ok v) given = tt
-answer_told answers shown (Err e) (fault, answered, inl is) = λ spared. absurd (not_spared is spared)
+answer_told answers shown (Err e) (fault, answered, inl is) = λ spared. absurd
+    (not_spared is spared)
 answer_told answers shown (Err e) (fault, answered, inr told) = λ spared. (fault, answered, told)
 
 -- a closure's answer (`pure_with`), whose fault is shown so
@@ -102,7 +103,7 @@ closure_answer answers shown = record {
 abbrev pub TellsWhole : List ℕ → Error → Type 0
 TellsWhole message e = is_memory e.0 ≡ false → e.0 ≡ ParseFail message
 
--- so it is of a refusal that is always given
+-- a refusal that is always given is the whole message
 pub refusal_told : {T : Type 0} (message : List ℕ) (r : Result T Error) → GivesRefusal message r
     → IfErr r (TellsWhole message)
 refusal_told message (Ok v) given = absurd given

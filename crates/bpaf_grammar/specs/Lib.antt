@@ -1,7 +1,6 @@
 pub use Rattle.bpaf_messages.specs.Leftover
-pub use Rattle.bpaf_line.specs.Rendering
+pub use Rattle.bpaf_messages.specs.Rendering
 pub use Rattle.bpaf_keys.specs.Info
-pub use Rattle.bpaf_parts.specs.Failures
 pub use Rattle.bpaf_keys.specs.declared.info.ExtraParams
 pub mod Run
 pub mod Ending

@@ -1,23 +1,20 @@
 -- What is so of each answer of a parser beside its outcome, by what the parser is made of.
-use Rattle.std.specs.Prelude.{false, true, IfOk, ◌≡◌}
-use Rattle.std.specs.{Result.IfErr}
-use Rattle.bpaf_line.specs.{Messages.is_memory}
-use Rattle.bpaf_laws.specs.Adjacent.{GroupOutcome, IsStretch}
-use Rattle.bpaf_laws.specs.Choice.{LeftmostWins}
 use Rattle.bpaf_laws.specs.Combinators.{CollectIsBounded, FallbackOutcome, IsBounded, LastOutcome}
-use Rattle.bpaf_laws.specs.Combinators.{TurnOutcome}
-use Rattle.bpaf_laws.specs.{Choice.ChoiceOutcome, Command.CommandPart, Command.LeavesNothing}
 use Rattle.bpaf_laws.specs.Laws.{DefaultTakesNothing, IsNotMemory, NoneTakesNothing, WithoutMemory}
-use Rattle.bpaf_laws.specs.{Laws.newly, Leaves.KeyBeforeEnvironment, Reading.Outcome}
-use Rattle.bpaf_laws.specs.Product.{ProductOutcome}
-use Rattle.bpaf_grammar.specs.Command.{EitherCommandOutcome}
-use Rattle.bpaf_grammar.specs.{Ending.EndsRun, Own.MadeOutcome, Refusals.NamesInside}
 use Rattle.bpaf_grammar.specs.Grammar.{Grammar, Repeat, argument, choice, closed, collect, command}
-use Rattle.bpaf_grammar.specs.Grammar.{count, default_gives, describes_of, dressed, fallback, flag, stretch}
-use Rattle.bpaf_grammar.specs.Grammar.{kept, last, look_outcome, made, many, only, optional}
-use Rattle.bpaf_grammar.specs.Grammar.{outcome_of, own, product, repeat, repeat_outcome, some}
-use Rattle.bpaf_grammar.specs.Grammar.{spared_of, step_outcome, word}
-use Rattle.bpaf_grammar.specs.{Positional.FaultsWordAlone, Run.ClonesNothing, Run.FaultsTextAlone}
+use Rattle.bpaf_grammar.specs.Grammar.{count, default_gives, describes_of, dressed, fallback, flag}
+use Rattle.bpaf_grammar.specs.Grammar.{stretch, kept, last, look_outcome, made, many, only}
+use Rattle.bpaf_grammar.specs.Grammar.{optional, outcome_of, own, product, repeat, repeat_outcome}
+use Rattle.std.specs.{Prelude.false, Prelude.true, Prelude.IfOk, Prelude.◌≡◌, Result.IfErr}
+use Rattle.bpaf_line.specs.Messages.{is_memory}
+use Rattle.bpaf_laws.specs.{Command.CommandPart, Command.LeavesNothing, Leaves.KeyBeforeEnvironment}
+use Rattle.bpaf_laws.specs.{Choice.LeftmostWins, Choice.ChoiceOutcome, Combinators.TurnOutcome}
+use Rattle.bpaf_laws.specs.{Adjacent.GroupOutcome, Adjacent.IsStretch, Product.ProductOutcome}
+use Rattle.bpaf_laws.specs.{Reading.Outcome, Laws.newly}
+use Rattle.bpaf_grammar.specs.Grammar.{some, spared_of, step_outcome, word}
+use Rattle.bpaf_grammar.specs.{Run.ClonesNothing, Run.FaultsTextAlone, Command.EitherCommandOutcome}
+use Rattle.bpaf_grammar.specs.{Positional.FaultsWordAlone, Refusals.NamesInside, Own.MadeOutcome}
+use Rattle.bpaf_grammar.specs.Ending.{EndsRun}
 
 -- an answer that isn't want of memory is one of these
 abbrev pub UnlessMemory : {T : Type 0} → Outcome T → Outcome T
@@ -53,7 +50,8 @@ MemoryIsNeverCaught (command {T = T} adjacent called info help g) s r t =
     (EndsRun (describes_of g) info) called (CommandPart called help (describes_of g))) s r t
 MemoryIsNeverCaught (stretch {T = T} first g) s r t =
     UnlessMemory (GroupOutcome T (WithoutMemory (outcome_of g)) first) s r t
-MemoryIsNeverCaught (product makes g) s r t = UnlessMemory (ProductOutcome (spared_of g) makes) s r t
+MemoryIsNeverCaught (product makes g) s r t = UnlessMemory (ProductOutcome (spared_of g) makes) s r
+    t
 
 -- a repeat has at most one value more than items were present, and each but the first took an item
 abbrev pub is_bounded_by : {A B : Type 0} → Repeat A B → Outcome A → Outcome B

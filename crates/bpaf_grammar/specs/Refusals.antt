@@ -1,15 +1,15 @@
 -- Each refusal of a run has one of twelve names.
 use Rattle.std.specs.Prelude.{◌≡◌, ◌+◌, ⊤, ℕ, Bool, true, false, List, [], Some, Ok, Err}
 use Rattle.bpaf_line.specs.Situation.{Context, IsStretchFrom, Situation, beginning, with_scope}
-use Rattle.bpaf_line.specs.Messages.{is_answer, is_memory}
 use Rattle.bpaf_line.specs.{declared.failure.ParseFailure.ParseFailure, declared.error.Error.Error}
-use Rattle.bpaf_line.specs.{declared.error.Message.Message, Rendering.Renders, Taking.IsContext}
+use Rattle.bpaf_line.specs.{Messages.is_answer, Messages.is_memory, declared.error.Message.Message}
+use Rattle.bpaf_line.specs.Taking.{IsContext}
+use Rattle.bpaf_messages.specs.{Leftover.IsLeftover, Rendering.Renders}
 use Rattle.bpaf_doc.specs.{declared.doc.Piece.Piece, Shape.Shape}
-use Rattle.bpaf_messages.specs.Leftover.{IsLeftover}
 use Rattle.bpaf_words.specs.{Line.HasNoLine, Line.Known, Arguments.Given}
-use Rattle.bpaf_laws.specs.{Reading.Outcome, Command.Called, Command.IsOpenedAt, Command.inside}
-use Rattle.bpaf_laws.specs.Command.{opening_words}
 use Rattle.bpaf_laws.specs.Laws.{HasName, Refusal, help_or_version, no_memory, refusal_of}
+use Rattle.bpaf_laws.specs.Command.{Called, IsOpenedAt, inside, opening_words}
+use Rattle.bpaf_laws.specs.Reading.{Outcome}
 use Rattle.bpaf_grammar.specs.Ending.{Shows, ShowsHelp, shows_help_page}
 use Rattle.bpaf_keys.specs.{declared.info.ExtraParams.ExtraParams, Info.ExtraOutcome, Info.RunInfo}
 use Rattle.bpaf_line.specs.declared.error.Message.TheVariants as message
@@ -47,8 +47,8 @@ pub data FailsAs {T : Type 0} (inner : Outcome T) (describes : Shape → Type 0)
       → inner s (Err e) left → e.0 ≡ message.ParseFailure f → HasName s.context name f
       → FailsAs inner describes info s name f
 
--- where the run inside a command starts: behind the word; of an adjacent command over the stretch of
--- present places behind it
+-- where the run inside a command starts: behind the word; of an adjacent command over the stretch
+-- of present places behind it
 abbrev pub StartsInside : (adjacent : Bool) (behind : Situation) → Situation → Type 0
 StartsInside false behind start = start ≡ behind
 StartsInside true behind start = (end : ℕ) × IsStretchFrom behind (behind.start + 1) end

@@ -4,10 +4,11 @@ use Rattle.bpaf_words.specs.{Line.HasNoLine, Line.Known, Arguments.Given}
 use Rattle.bpaf_line.specs.Situation.{Situation, Context, beginning, open_count, is_dealt_place}
 use Rattle.bpaf_line.specs.{declared.error.Message.TheVariants.ParseFailed, Messages.is_memory}
 use Rattle.bpaf_line.specs.{declared.failure.ParseFailure.ParseFailure, declared.error.Error.Error}
-use Rattle.bpaf_line.specs.{declared.error.Message.Message, Rendering.Renders, Taking.IsContext}
+use Rattle.bpaf_line.specs.{declared.error.Message.Message, Taking.IsContext}
+use Rattle.bpaf_messages.specs.Rendering.{Renders}
 use Rattle.bpaf_doc.specs.Shape.{Shape, in_order}
+use Rattle.bpaf_line.specs.Failure.{end_message}
 use Rattle.bpaf_grammar.specs.Ending.{Ending, EndsRun}
-use Rattle.bpaf_parts.specs.Failures.{end_message}
 use Rattle.bpaf_keys.specs.Info.{RunInfo, IsNoVersion}
 use Rattle.bpaf_laws.specs.{Leaves.GetsText, Leaves.IsFlagAbsent, Reading.Outcome, Reading.Readings}
 use Rattle.bpaf_text.specs.Named.{KeyWithValue, Named}
@@ -16,9 +17,9 @@ use Rattle.bpaf_line.specs.declared.error.Message.TheVariants as message
 use Rattle.bpaf_line.specs.declared.failure.ParseFailure.TheVariants as failure
 
 -- a run's answer that isn't told as want of memory
-abbrev pub IsNotWant : {T : Type 0} → Result T ParseFailure → Type 0
-IsNotWant (Ok v) = Unit {0}
-IsNotWant (Err f) = is_memory (end_message f) ≡ false
+abbrev pub IsNotMemoryFailure : {T : Type 0} → Result T ParseFailure → Type 0
+IsNotMemoryFailure (Ok v) = Unit {0}
+IsNotMemoryFailure (Err f) = is_memory (end_message f) ≡ false
 
 -- a run from a situation on, and what it leaves: a value and no item; a value and some; a refusal
 pub data Runs (T : Type 0) (inner : Outcome T) (ending : Ending) (s : Situation)

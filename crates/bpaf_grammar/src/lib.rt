@@ -14,8 +14,8 @@
 //!   (specs/Command.antt) and of leaves that no other kind is built of (specs/Leaves.antt).
 //! - Laws are proved once, by recursion: each parser keeps to the laws (`lawful_of`) and shows its
 //!   short names (`shows_of`, both in specs/Laws.antt).
-//! - What is so of each answer beside its outcome is told by the kind too (specs/Promises.antt), and
-//!   proved in proofs/Promises.antt: no parser catches want of memory, a repeat is bounded, a
+//! - What is so of each answer beside its outcome is told by the kind too (specs/Promises.antt),
+//!   and proved in proofs/Promises.antt: no parser catches want of memory, a repeat is bounded, a
 //!   default takes nothing, of two values of a choice the leftmost wins, a key comes before its
 //!   variables, a command leaves nothing in its scope and hands on a failure of its own run alone,
 //!   and an adjacent command or group takes one stretch.
@@ -23,8 +23,8 @@
 //!   specs/Ending.antt), the twelve names of its refusals (specs/Refusals.antt), and the attempts of
 //!   an adjacent command (specs/Command.antt).
 //!
-//! It stands on `bpaf_laws` and on the definitions of keys, messages and parts of parsers. Of code
-//! it has [`Position`] alone, which a grammar names.
+//! It stands on `bpaf_laws` and on the definitions of keys and messages. Of code it has
+//! [`Position`] alone, which a grammar names.
 #![tactic(auto)]
 
 mod position;

@@ -1,4 +1,4 @@
--- Counts of places, and bits in words of 64: what a write changes, and what is found.
+-- Bits in words of 64: what a write changes, how many are clear, and what is found.
 use Rattle.std.proofs.Common.{◌≡◌, ◌≢◌, ℕ, zero, suc, ◌+◌, ◌<◌, ◌≤◌, Bool, true, false, refl, ap}
 use Rattle.std.proofs.Common.{◌∙◌, arith, if◌then◌else◌, ⊎_elim, ◌==◌, ◌||◌, List, [], ◌∷◌, ◌++◌}
 use Rattle.std.proofs.Common.{sym, ◌-◌, ◌/◌, ◌%◌, ◌^◌, not, min, count_ones, bit_and, pow_pos, ◌*◌}
@@ -9,7 +9,10 @@ use Rattle.std.proofs.lemmas.Nat.{ones-le, ones_cat, shr-shr, mod_below, and_mas
 use Rattle.std.proofs.lemmas.Nat.Bits.{bit_at-zero, bit_at_not, bit_at-trailing_zeros, bit_at_above}
 use Rattle.std.proofs.lemmas.Nat.Bits.{ones_shr, bit_at-lt, bit_at_ones}
 use Rattle.std.proofs.lemmas.List.{get_or-replicate, get_or_past, length-replicate}
-use Rattle.bpaf_index.specs.Bits.{count_below, is_on, clear_within, IsFirstWith, is_bit, has_bit}
+use Rattle.bpaf_index.specs.Bits.{is_on, clear_within, IsFirstWith, is_bit, has_bit}
+use Rattle.bpaf_base.specs.Count.{count_below}
+use Rattle.bpaf_base.proofs.Count.{count_below-same, count_below-none, count_below-all}
+use Rattle.bpaf_base.proofs.Count.{count_below-split, count_below-most}
 use Rattle.bpaf_index.specs.Bits.{is_clear_from, count_clear, ChangesBit, lesser_of, is_on_as}
 use Rattle.std.specs.Int.{bit_at, bit_not, trailing_zeros, w64}
 use Rattle.std.proofs.{lemmas.Bool.Decides.nat_tests, lemmas.List.Folds.list_any-append}
@@ -17,68 +20,6 @@ use Rattle.std.proofs.{lemmas.List.Folds.list_any_at, Math.Bool.beq}
 use Rattle.bpaf_index.specs.Bits.{ChangesBits, IsLeastIn}
 use lib.Pow.{mod-pow-add}
 use lib.Count.{ones_step, trailing_of_zero}
-
--- two sets that agree below n have as many numbers there
-pub count_below-same : (f g : ℕ → Bool) (n : ℕ) → ((q : ℕ) → q < n → f q ≡ g q)
-    → count_below f n ≡ count_below g n
-count_below-same f g zero agree = refl
-count_below-same f g (suc n) agree =
-    let below = count_below-same f g n (λ q l. agree q (omega arith)) in
-    rw (agree n (omega arith), below) refl
-
--- a set that lacks one number of another has one fewer
-pub count_below-fewer : (f g : ℕ → Bool) (n p : ℕ) → p < n → f p ≡ true → g p ≡ false
-    → ((q : ℕ) → q ≢ p → f q ≡ g q) → count_below g n + 1 ≡ count_below f n
-count_below-fewer f g zero p within has lacks agree = absurd (omega arith)
-count_below-fewer f g (suc n) p within has lacks agree =
-    let fewer = λ (below : p < n). count_below-fewer f g n p below has lacks agree in
-    let same = λ (past : n ≤ p).
-    count_below-same f g n (λ q k. agree q (λ z. absurd (omega arith))) in
-    let here = agree n in
-    grind arith
-
--- a set without numbers below n has none of them
-pub count_below-none : (f : ℕ → Bool) (n : ℕ) → ((q : ℕ) → q < n → f q ≡ false)
-    → count_below f n ≡ 0
-count_below-none f zero lacks = refl
-count_below-none f (suc n) lacks =
-    let below = count_below-none f n (λ q l. lacks q (omega arith)) in
-    rw (lacks n (omega arith)) below
-
--- a set without numbers from n on has no more of them
-pub count_below-cut : (f : ℕ → Bool) (n m : ℕ) → n ≤ m → ((q : ℕ) → n ≤ q → q < m → f q ≡ false)
-    → count_below f m ≡ count_below f n
-count_below-cut f n zero within lacks = let at : n ≡ 0 = omega arith in rw at refl
-count_below-cut f n (suc m) within lacks =
-    ⊎_elim (λ (below : m < n). let at : n ≡ suc m = omega arith in rw at refl)
-    (λ (above : n ≤ m). rw (lacks m above (omega arith))
-    (count_below-cut f n m above (λ q l h. lacks q l (omega arith)))) (cases_lt m n)
-
--- a set with a number below n has at least one
-pub count_below-some : (f : ℕ → Bool) (n p : ℕ) → p < n → f p ≡ true → 1 ≤ count_below f n
-count_below-some f zero p within has = absurd (omega arith)
-count_below-some f (suc n) p within has =
-    let before = λ (below : p < n). count_below-some f n p below has in grind arith
-
--- no set has more than n numbers below n
-pub count_below-most : (f : ℕ → Bool) (n : ℕ) → count_below f n ≤ n
-count_below-most f zero = omega arith
-count_below-most f (suc n) = let before = count_below-most f n in grind arith
-
--- a set with all numbers below n has n of them
-pub count_below-all : (f : ℕ → Bool) (n : ℕ) → ((q : ℕ) → q < n → f q ≡ true) → count_below f n ≡ n
-count_below-all f zero all = refl
-count_below-all f (suc n) all =
-    let below = count_below-all f n (λ q l. all q (omega arith)) in
-    rw (all n (omega arith), below) (omega arith)
-
--- the numbers of a set below a sum are those below the first, and those of the rest
-pub count_below-split : (f : ℕ → Bool) (n k : ℕ)
-    → count_below f (n + k) ≡ count_below f n + count_below (λ i. f (n + i)) k
-count_below-split f n zero = let same : n + 0 ≡ n = omega arith in rw same (omega arith)
-count_below-split f n (suc k) =
-    let later : n + suc k ≡ suc (n + k) = omega arith in
-    let before = count_below-split f n k in rw later (grind arith)
 
 -- a place is on a longer list where it was on the old one, or is the last
 pub is_on_push : (places : List ℕ) (p q : ℕ)
@@ -142,7 +83,7 @@ clear_counted word low wide fits inside some =
 pub clear_all : (word low wide : ℕ) → word ≡ 0 → wide ≡ clear_within word low wide
 clear_all word low wide none = grind (arith, count_below-all, bit_at-zero)
 
--- and of one whose bits are all set none
+-- of a word whose bits are all set none is clear
 pub clear_none : (word low wide : ℕ) → word ≡ 18446744073709551615 → low + wide ≤ 64
     → 0 ≡ clear_within word low wide
 clear_none word low wide full inside = sym (count_below-none _ wide (λ i within.

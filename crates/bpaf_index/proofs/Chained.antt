@@ -115,7 +115,7 @@ linked_passed {classes} {next} {heads} {class} {place} {from} {head} h within of
 no_key : (names : Names) (item : Arg) → is_key item ≡ false → is_key_of names item ≡ false
 no_key names item e = grind arith
 
--- nor from a place on, where its item is none and no key stands behind it
+-- no key has a name from a place on whose item is none, where none has one behind it
 pub keyless_more : (line : List Arg) (p : ℕ) (item : Arg) → p < length line
     → item ≡ get_or line p item → is_key item ≡ false → HasNoKeyFrom line (p + 1)
     → HasNoKeyFrom line p

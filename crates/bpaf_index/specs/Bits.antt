@@ -1,17 +1,13 @@
 -- Sets of places, and one as bits in words of 64.
-use Rattle.std.specs.Prelude.{ℕ, ◌+◌, ◌==◌, Bool, List, zero, suc, if◌then◌else◌, ◌≡◌, ◌≢◌, ◌<◌}
+use Rattle.std.specs.Prelude.{ℕ, ◌+◌, ◌==◌, Bool, List, if◌then◌else◌, ◌≡◌, ◌≢◌, ◌<◌}
 use Rattle.std.specs.Prelude.{◌≤◌, ◌/◌, ◌%◌, ◌*◌, true, false, not, ◌&&◌, nat_le, length}
 use Rattle.std.specs.Prelude.{slice_index, Option, None, Some, min}
 use Rattle.std.specs.{List.list_any, Int.bit_at}
+use Rattle.bpaf_base.specs.Count.{count_below}
 
 -- a place is one of these
 abbrev pub is_on : List ℕ → ℕ → Bool
 is_on places p = list_any (λ q. q == p) places
-
--- how many numbers below n are in a set
-abbrev pub count_below : (ℕ → Bool) → ℕ → ℕ
-count_below set zero = 0
-count_below set (suc n) = if set n then (count_below set n + 1) else count_below set n
 
 -- A set of places, as bits in words of 64.
 

@@ -1,12 +1,12 @@
 -- The places of a line, chained by the classes of their items: items of one name are of one class.
 -- No contract above this crate speaks of them.
-use Rattle.std.specs.Prelude.{ℕ, ◌≡◌, ◌+◌, ◌<◌, ◌⊎◌, List, length, slice_get, slice_index, Option, Some}
-use Rattle.std.specs.Prelude.{None, nat_lt, if◌then◌else◌, string_bytes, String as StringIn, ◌≢◌}
-use Rattle.std.specs.Prelude.{◌≤◌, Bool, true, false, [], ◌∷◌, ⊤}
-use Rattle.std.specs.{BTreeMap.is_at, Cmp.Lexicographic.slice_cmp, Map.lookup, Ordering.nat_cmp}
-use Rattle.std.specs.{declared.alloc.Global.Global, Option.option_map_or}
+use Rattle.std.specs.Prelude.{ℕ, ◌≡◌, ◌+◌, ◌<◌, ◌⊎◌, List, length, slice_get, slice_index, Option}
+use Rattle.std.specs.Prelude.{Some, None, nat_lt, if◌then◌else◌, string_bytes, String as StringIn}
+use Rattle.std.specs.Prelude.{◌≢◌, ◌≤◌, Bool, true, false, [], ◌∷◌, ⊤}
+use Rattle.std.specs.{declared.alloc.Global.Global, Cmp.Lexicographic.slice_cmp, Ordering.nat_cmp}
+use Rattle.std.specs.{Option.option_map_or, BTreeMap.is_at, Map.lookup}
 use Rattle.bpaf_base.specs.declared.arg.Arg.TheVariants.{Short, Long, ArgWord, Word, PosWord}
-use Rattle.bpaf_base.specs.{declared.arg.Arg.Arg, Names.Names, Items.is_key_of}
+use Rattle.bpaf_base.specs.{declared.arg.Arg.Arg, Items.is_key_of, Names.Names}
 
 -- which names have which classes: short names beyond ASCII, and long names
 pub record Naming : Type 0 where

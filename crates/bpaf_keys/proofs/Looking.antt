@@ -1,22 +1,22 @@
 -- Looking for help and the version: how it is put together, and that it keeps to the laws.
 use Rattle.std.proofs.Common.{arith, ◌≡◌, Bool, true, false, None, Option, List, Some, Ok, Err}
+use Rattle.bpaf_laws.specs.Laws.{ShowsNames, of_flags, shorts_among, NamesAnswer, Keeps, Lawful}
+use Rattle.bpaf_keys.specs.Info.{ExtraOutcome, ExtraReads, IsNoVersion, SwitchReads, extra_shape}
+use Rattle.bpaf_keys.specs.Info.{extra_shape_of, help, neither, no_memory, version, RunInfo}
 use Rattle.std.proofs.Common.{⊎_elim, inr, Result, sym, ◌∙◌, ap}
-use Rattle.std.specs.Prelude.{◌++◌, refl, codes}
-use Rattle.std.specs.{Result.IsErr, Result.IsErrAnd, Option.option_map_or}
+use Rattle.std.specs.{Prelude.◌++◌, Prelude.refl, Prelude.codes, Result.IsErr, Result.IsErrAnd}
+use Rattle.std.specs.Option.{option_map_or}
 use Rattle.bpaf_doc.specs.{declared.doc.Piece.Piece, Shape.parts}
 use Rattle.bpaf_text.specs.Named.{Named}
 use Rattle.bpaf_line.specs.declared.error.Message.TheVariants.{Memory, ParseFail}
 use Rattle.bpaf_line.specs.{declared.error.Error.Error, Situation.Situation}
-use Rattle.bpaf_laws.proofs.Keeping.{keeps_same, keeps_trans, names_same, keeps_refl}
 use Rattle.bpaf_laws.proofs.ShownNames.{both_show, flag_shows, last_shows, one_shape, product_shows}
+use Rattle.bpaf_laws.proofs.Keeping.{keeps_same, keeps_trans, names_same, keeps_refl}
 use Rattle.bpaf_laws.proofs.{ProductLaws.both_lawful, LeafLaws.flag_lawful}
+use Rattle.bpaf_laws.specs.{Leaves.FlagOutcome, Leaves.IsPresent, Leaves.IsFlagAbsent, Laws.Reads}
 use Rattle.bpaf_laws.specs.Product.{BothReads}
-use Rattle.bpaf_laws.specs.Leaves.{FlagOutcome, IsPresent, IsFlagAbsent}
-use Rattle.bpaf_laws.specs.Laws.{ShowsNames, of_flags, shorts_among, NamesAnswer, Keeps, Lawful, Reads}
-use Rattle.bpaf_keys.specs.Info.{ExtraOutcome, ExtraReads, IsNoVersion, SwitchReads, extra_shape}
-use Rattle.bpaf_keys.specs.Info.{extra_shape_of, help, neither, no_memory, version, RunInfo}
-use Rattle.bpaf_keys.specs.Info.{IsNotAsked, LooksForVersion}
 use Rattle.bpaf_keys.specs.declared.info.ExtraParams.{ExtraParams}
+use Rattle.bpaf_keys.specs.Info.{IsNotAsked, LooksForVersion}
 use Rattle.bpaf_line.specs.declared.error.Message.TheVariants as message
 use Rattle.bpaf_keys.specs.declared.info.ExtraParams.TheVariants as extra
 
@@ -25,7 +25,7 @@ switch_answers : (named : Named) (s : Situation) (is : Bool) (t : Situation)
     → IsPresent named s is t → FlagOutcome ◌≡◌ named true (Some false) s (Ok is) t
 switch_answers named s b t found = grind arith
 
--- and is read as one
+-- a key that is there or not is read as a switch
 flag_read : (named : Named) (s : Situation) (is : Bool) (t : Situation) → IsPresent named s is t
     → Reads Bool (SwitchReads named) s is t
 flag_read named s is t looked =
@@ -87,7 +87,7 @@ module _ (info : RunInfo) where
     named = λ s t e o. extra_named s t e o;
   }
 
--- and shows the short names of the keys that are looked for
+-- looking shows the short names of the keys that are looked for
 pub extra_shows : (info : RunInfo) → ShowsNames (λ shape. shape ≡ extra_shape info)
     (of_flags (option_map_or (λ text. info.help_arg.names.shorts ++ info.version_arg.names.shorts)
     info.version info.help_arg.names.shorts))
@@ -145,7 +145,7 @@ module _ (info : RunInfo) (s : Situation) where
         kept_behind : Keeps t u → Keeps s u
         kept_behind = keeps_trans s t u (key_keeps info.help_arg s false t without_help)
 
-        -- and there is no memory for looking for the version
+        -- there is no memory for looking for the version, where help's key isn't there
         pub version_refused : {e : Error} → LooksForVersion info t (Err e) u
             → (r : Result ExtraParams Error) → IsErr r × IsErrAnd r (λ given. given ≡ e)
             → ExtraOutcome info s r u
@@ -161,7 +161,7 @@ module _ (info : RunInfo) (s : Situation) where
             version text t u without_help (found.0 ∙ is) found.1
         then_version None found is = cc
 
-        -- nor is the version's
+        -- neither help's key nor the version's is there
         pub then_neither : (found : Option (List Piece)) → LooksForVersion info t (Ok found) u
             → found ≡ None → {e : Error} → IsNotAsked e.0 → ExtraOutcome info s (Err e) u
         then_neither (Some one) none is asked = cc

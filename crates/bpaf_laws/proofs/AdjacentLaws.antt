@@ -91,7 +91,7 @@ module _ {T : Type 0} {inner : Outcome T} {reads : Readings T} (law : Lawful T i
       (keeps_stretch s a b (narrowed_open inner s a b narrowed).1)
       (keeps_of law (with_scope s a b) r t ran)
 
-  -- so do the attempts from a place on
+  -- the attempts from a place on keep all
   pub tries_keep : (a : ℕ) (r : Result T Error) (t : Situation) → Tries T inner s a r t → Keeps s t
   tries_keep a r t (answered stop v left narrowed ran none) =
       grind (arith, attempt_keeps, keeps_scope)
@@ -125,7 +125,7 @@ module _ {T : Type 0} {inner : Outcome T} {reads : Readings T} (law : Lawful T i
   BestKeeps None = Unit {0}
   BestKeeps (Some failure) = Keeps s failure.left × NamesAnswer s.context failure.error.0
 
-  -- so does the longest failure of places that were tried in vain
+  -- the longest failure of places tried in vain keeps all and names its answer, if there is one
   vain_keeps : {first : Part} {from : ℕ} {failures : List Failure}
       → TriedInVain T inner s first from failures → BestKeeps (longest s failures)
   vain_keeps none_tried = tt
@@ -133,7 +133,7 @@ module _ {T : Type 0} {inner : Outcome T} {reads : Readings T} (law : Lawful T i
   vain_keeps (all_failed from a failures e t before start probe tries spared) =
       grind (arith, tries_answer, vain_keeps before)
 
-  -- and the end of a search without a value
+  -- the end of a search without a value keeps all and names its answer, if there is one
   end_keeps : (first : Part) (best : Option Failure) (e : Error) (t : Situation) → BestKeeps best
       → EndsWith s first best e t → Keeps s t × NamesAnswer s.context e.0
   end_keeps first x e t before ends = grind (arith, keeps_same, names_same)
@@ -176,12 +176,12 @@ module _ {T : Type 0} (inner without : Outcome T) (spares : Spares inner without
       refused stop e left (narrowed_spared narrowed)
       (spares (with_scope s a stop) left (Err e) ran spared)
 
-  -- nor do probes
+  -- probes catch no want of memory
   probe_spared : {a stop : ℕ} {Takes : Share → Type 0} → Probe T inner s a stop Takes
       → Probe T without s a stop Takes
   probe_spared probe = grind arith
 
-  -- nor do places that were tried in vain
+  -- places that were tried in vain catch no want of memory
   vain_spared : {first : Part} {from : ℕ} {failures : List Failure}
       → TriedInVain T inner s first from failures → TriedInVain T without s first from failures
   vain_spared none_tried = none_tried
@@ -191,7 +191,7 @@ module _ {T : Type 0} (inner without : Outcome T) (spares : Spares inner without
       all_failed from a failures e t (vain_spared before) start (probe_spared probe)
       (tries_spared spared tries) spared
 
-  -- so an adjacent group catches none
+  -- an adjacent group catches no want of memory
   pub spared_group : {first : Part} {r : Result T Error} {t : Situation}
       → Searches T inner s first r t → Searches T without s first r t
   spared_group (gave from a failures v left before start probe tries) =

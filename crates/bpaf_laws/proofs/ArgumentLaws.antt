@@ -85,7 +85,7 @@ module _ (argument : KeyWithValue) (s : Situation) (text : List ℕ) (t : Situat
   is_left : (p : ℕ) → is_match test t p ≡ true → (p ≡ takes.key) ⊎ (p ≡ takes.key + 1) → ⊥
   is_left p there at = let none = none_left p at in grind arith
 
-  -- and was there at first
+  -- a key that is there later was there at first
   pub key_before : (p : ℕ) → is_match test t p ≡ true → is_match test s p ≡ true
   key_before p there = let step = one_of_two p in grind (arith, is_left p there)
 
@@ -129,12 +129,13 @@ module _ (argument : KeyWithValue) where
     before = own.0;
   })
 
-  -- and of one before others
+  -- what was read of one key before others
   more_keys : (s m t : Situation) (x text : List ℕ) → TakesKeyWithText argument s x m
       → Reads (List ℕ) (AreKeysWithText argument) m text t
       → Reads (List ℕ) (AreKeysWithText argument) s text t
   more_keys s m t x text takes later =
-      let rest : Reads (List ℕ) (λ context share own. (keys : AreKeysWithText argument context share own)
+      let rest : Reads (List ℕ) (λ context share own.
+      (keys : AreKeysWithText argument context share own)
       × (takes.key ≤ keys.greatest)) m text t = reads_as later (λ own. (own, least own)) in
       reads_as (reads_both (key_read argument s x m takes) rest) (λ r.
       let own = r.rest_read.0 in
@@ -325,7 +326,7 @@ module _ {T : Type 0} (means : List ℕ → T → Type 0) (argument : KeyWithVal
       → ((p : ℕ) → is_match (is_key_with_value argument) s p ≡ true → A) × (HasNoKey argument s → B)
   by_key text gets A B of_key of_variable = grind (arith, true≢false, counted)
 
-  -- so it is with a text at fault
+  -- a text at fault is that of the key that counts, or where none is that of the environment
   pub fault_first : (text : List ℕ) (m : Message) → GetsText argument s text t
       → FaultsText means text t.current m → FailsKeyFirst means argument s m
   fault_first text m gets fault = grind (arith, by_key, counted)
@@ -337,13 +338,14 @@ module _ {T : Type 0} (means : List ℕ → T → Type 0) (argument : KeyWithVal
   key_first text (Ok v) gets meant =
       by_key text gets _ _ (λ takes. (text, takes, meant)) (λ variable. (text, variable.set, meant))
 
-  -- and with a refusal without a text
+  -- a refusal without a text is that of the key that counts, or of the environment
   pub refused_first : (m : Message) → RefusesText argument s m t → FailsKeyFirst means argument s m
   refused_first (NoArgument key metavar) refused =
       let lacks = lacks_own argument s t key metavar argument.last refused.0 refused.1 in
       ((λ p here. lacks.1), (λ none. absurd (true≢false (sym lacks.0 ∙ none key))))
   refused_first Memory refused = ((λ p here. tt), (λ none. tt))
-  refused_first (ParseFailed place words) refused = let nowhere = refused.1.1 in absurd (grind arith)
+  refused_first (ParseFailed place words) refused = let nowhere = refused.1.1 in absurd
+      (grind arith)
   refused_first other refused = (
     (λ p here. absurd (true≢false (sym here ∙ refused.0 p))),
     (λ none. refused.1),

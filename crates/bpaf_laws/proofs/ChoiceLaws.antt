@@ -1,20 +1,18 @@
 -- Choices keep to the laws where their branches do, catch no want of memory; the leftmost wins.
 use Rattle.std.proofs.Common.{true≢false, Result, Option, false, arith, Bool, true, Some, None, ◌≡◌}
-use Rattle.std.proofs.Common.{refl, ◌&&◌, IsOk, Err, sym, inl, inr, not, ◌∙◌, ◌⊎◌}
-use Rattle.std.proofs.lemmas.Bool.{and_parts, cases_cond}
-use Rattle.std.proofs.{Common.Ok, Common.ap, Common.ℕ, lemmas.Bool.Decides.nat_tests}
-use Rattle.bpaf_line.specs.Taking.{ConflictsSaved, TakeTheSame, IsLeftmost, IsWinner}
-use Rattle.bpaf_line.specs.{declared.error.Error.Error, Situation.Situation, Messages.Combines}
 use Rattle.bpaf_laws.proofs.Keeping.{AnswersLawfully, reads_conflicts, LawfulAnswer, same_took_none}
 use Rattle.bpaf_laws.proofs.Keeping.{lawful_answer, names_want, keeps_refl, keeps_same, lawful_by}
-use Rattle.bpaf_laws.proofs.{Keeping.reads_as, Keeping.names_same}
-use Rattle.bpaf_laws.specs.Choice.{TookAndIsChosen, AnsweredBranch}
-use Rattle.bpaf_laws.specs.Choice.{ChoiceOutcome, ValueOfWinner, BranchesEval, depth}
-use Rattle.bpaf_laws.specs.Choice.{LeftmostWins, EqualDepths, branch_of}
-use Rattle.bpaf_laws.specs.Choice.{ChoiceReads, IsChosen, is_want, Winner, Chosen}
-use Rattle.bpaf_laws.specs.Choice.{IsWant, Stands}
+use Rattle.bpaf_laws.specs.Choice.{TookAndIsChosen, AnsweredBranch, ChoiceOutcome, ValueOfWinner}
+use Rattle.bpaf_laws.specs.Choice.{BranchesEval, depth, LeftmostWins, EqualDepths, branch_of}
+use Rattle.bpaf_laws.specs.Choice.{ChoiceReads, IsChosen, is_memory_answer, Winner, Chosen}
+use Rattle.std.proofs.Common.{refl, ◌&&◌, IsOk, Err, sym, inl, inr, not, ◌∙◌, ◌⊎◌, Ok, ap, ℕ}
+use Rattle.std.proofs.{lemmas.Bool.and_parts, lemmas.Bool.cases_cond, lemmas.Bool.Decides.nat_tests}
+use Rattle.bpaf_line.specs.Taking.{ConflictsSaved, TakeTheSame, IsLeftmost, IsWinner}
+use Rattle.bpaf_line.specs.{declared.error.Error.Error, Situation.Situation, Messages.Combines}
+use Rattle.bpaf_laws.proofs.Keeping.{reads_as, names_same}
 use Rattle.bpaf_laws.specs.Laws.{WithoutMemory, IsNotMemory, Lawful, Spares}
-use Rattle.bpaf_laws.specs.{Reading.Readings, Reading.Outcome, Combinators.is_untouched}
+use Rattle.bpaf_laws.specs.{Choice.IsMemoryAnswer, Choice.Stands, Reading.Readings, Reading.Outcome}
+use Rattle.bpaf_laws.specs.Combinators.{is_untouched}
 
 -- an error is no value
 pub ok_is_not_err : {T : Type 0} (v : T) (e : Error) → ◌≡◌ {A = Result T Error} (Ok v) (Err e) → ⊥
@@ -41,7 +39,7 @@ module _ {T : Type 0} (s : Situation) (Holds : Result T Error → Situation → 
   of_winner x y sa sb (false, Some place) r t won one other =
       rw won.0 (noted y sb sa place t won.1 other)
 
-  -- and of the chosen one's, at any depths
+  -- what holds of two values, also under conflict notes, holds of the chosen one, at any depths
   pub of_chosen : (a : Result T Error) (sa : Situation) (b : Result T Error) (sb : Situation)
       (r : Result T Error) (t : Situation) → Chosen s a sa b sb r t → Holds a sa → Holds b sb
       → Holds r t
@@ -78,8 +76,8 @@ module _ {T : Type 0} {first second : Outcome T} {rf rs : Readings T} (lf : Lawf
 -- where both branches ran and wanted no memory, the choice gives the chosen answer, or wants some
 pub ran_outcome : {T : Type 0} (first second : Outcome T) (s : Situation) (a : Result T Error)
     (sa : Situation) (b : Result T Error) (sb : Situation) (r : Result T Error) (t : Situation)
-    → first s a sa → second s b sb → is_want a ≡ false → is_want b ≡ false
-    → Chosen s a sa b sb r t ⊎ IsWant s r t → ChoiceOutcome first second s r t
+    → first s a sa → second s b sb → is_memory_answer a ≡ false → is_memory_answer b ≡ false
+    → Chosen s a sa b sb r t ⊎ IsMemoryAnswer s r t → ChoiceOutcome first second s r t
 ran_outcome first second s a sa b sb r t f g p q answer = grind arith
 
 module _ {T : Type 0} (first second less other : Outcome T) (fewer : Spares first less)
@@ -98,7 +96,7 @@ module _ {T : Type 0} (first second less other : Outcome T) (fewer : Spares firs
     chosen = o.chosen;
   }
 
--- so they do of a choice
+-- fewer answers of two branches give fewer answers of a choice, which didn't want memory
 pub choice_within : {T : Type 0} (first second less other : Outcome T) → Spares first less
     → Spares second other → (s t : Situation) (r : Result T Error)
     → ChoiceOutcome first second s r t → ChoiceOutcome less other s r t
@@ -123,7 +121,7 @@ first_wins first second place t winner saved =
     let left = leftmost_of_other second.left first.left place winner.0 in
     ((true, Some place), (left, left.differs ∙ ap not winner.1), (refl, saved))
 
--- and where it wins, it is the winner
+-- where the second branch wins against the first, it is the winner
 pub second_wins : {T : Type 0} (first second : AnsweredBranch T) (place : ℕ) (t : Situation)
     → IsWinner second.left first.left (true, Some place)
     → ConflictsSaved second.left first.left place t → ValueOfWinner first second (Ok second.value) t
@@ -150,7 +148,7 @@ module _ {T : Type 0} (v : T) (t : Situation) where
       → IsChosen (Ok branch.value) branch.left v t
   stands branch answer = grind arith
 
-  -- so it is with a winner
+  -- a winner is chosen
   winner_chosen : (first second : AnsweredBranch T) (winner : Bool × Option ℕ)
       → IsWinner first.left second.left winner → Winner first second winner (Ok v) t
       → IsLeftmostChosen (Ok first.value) first.left (Ok second.value) second.left v t
@@ -189,7 +187,7 @@ module _ {T : Type 0} {first second : Outcome T} {first_reads second_reads : Rea
       took_nothing first_law s sa x first_ran each.0 p ∙ sym
       (took_nothing second_law s sb y second_ran each.1 p)
 
-  -- so it is at equal depths
+  -- of two values at equal depths the leftmost is chosen
   equal_chosen : (s : Situation) (v : T) (t : Situation) (a : Result T Error) (sa : Situation)
       (b : Result T Error) (sb : Situation) → first s a sa → second s b sb
       → EqualDepths s a sa b sb (Ok v) t → IsOk a → IsOk b → IsLeftmostChosen a sa b sb v t

@@ -51,7 +51,7 @@ module _ {T : Type 0} {inner : Outcome T} {reads : Readings T} (law : Lawful T i
           reads_same (OptionalReads reads) s t None stopped.1 (newly_none s)
       answers s (Err e) t o = step_refuses catches true s t e o
 
-  -- so do fallbacks
+  -- fallbacks keep to the laws
   pub fallback_lawful : (gives : Gives T) → NamesGiven gives
       → Lawful T (FallbackOutcome inner gives) (ChoiceReads reads (PureReads (λ w. gives (Ok w))))
   fallback_lawful gives names = lawful_by answers
@@ -77,7 +77,7 @@ module _ {T : Type 0} {inner : Outcome T} {reads : Readings T} (law : Lawful T i
       → Lawful R outcome (MapReads T R reads makes)
   made_lawful makes values refusals = grind (arith, reads_as)
 
-  -- so mapped parsers do
+  -- mapped parsers keep to the laws
   pub map_lawful : {R : Type 0} (answers : T → R → Type 0)
       → Lawful R (MapOutcome inner answers) (MapReads T R reads answers)
   map_lawful answers = made_lawful answers (λ s t v o. o) (λ s t e o. inl o)
@@ -88,7 +88,7 @@ module _ {T : Type 0} {inner : Outcome T} {reads : Readings T} (law : Lawful T i
       → Lawful R (ParseOutcome inner answers shown) (MapReads T R reads (λ x v. answers x (Ok v)))
   parse_lawful answers shown = grind (arith, made_lawful, names_fault)
 
-  -- and guarded ones
+  -- guarded parsers keep to the laws
   pub guard_lawful : (checks : T → Bool → Type 0) (message : List ℕ)
       → Lawful T (GuardOutcome inner checks message)
       (MapReads T T reads (λ x v. (v ≡ x) × checks x true))
@@ -186,8 +186,11 @@ module _ {T : Type 0} {inner : Outcome T} {reads : Readings T} (law : Lawful T i
           (stop_reads false run.last t run.stop)
       answers s (Err e) t run =
           let fails = step_refuses law catches (is_nil run.values) run.last t e run.fails in
-          let kept = steps_keep true s run.values run.last run.steps in
-          (keeps_trans s run.last t kept fails.0, on_line (λ c. NamesAnswer c e.0) s run.last kept fails.1)
+          let kept = steps_keep true s run.values run.last run.steps in (
+            keeps_trans s run.last t kept fails.0,
+            on_line (λ c. NamesAnswer c e.0) s run.last kept
+                fails.1,
+          )
 
   -- many keeps to the laws
   pub many_lawful : Lawful (Vec T) (ManyOutcome inner catches)
@@ -247,7 +250,8 @@ module _ {T : Type 0} {inner : Outcome T} {reads : Readings T} (law : Lawful T i
   one_read : (s t : Situation) (v : T) → inner s (Ok v) t
       → Reads (List T) (ListReads reads) s (v ∷ []) t
   one_read s t v o =
-      first_read law false s t t t v [] o refl (reads_same (EachReads reads) t t [] refl (newly_none t))
+      first_read law false s t t t v [] o refl
+      (reads_same (EachReads reads) t t [] refl (newly_none t))
 
   -- what answers a list where a turn stops, or rests
   abbrev RestOutcome : Outcome (List T)
@@ -299,7 +303,7 @@ module _ {T : Type 0} {inner : Outcome T} {reads : Readings T} (law : Lawful T i
 
 module _ {T : Type 0} {inner : Outcome T} {reads : Readings T} (law : Lawful T inner reads)
     (catches : Bool) (s t : Situation) where
-  -- so it is for many
+  -- many gives no more values than items are present, and one
   pub many_bounded : (r : Result (Vec T) Error) → ManyOutcome inner catches s r t
       → IfOk r (λ values. IsBounded inner s values.items)
   many_bounded r o = grind (arith, list_bounded law catches s t)
@@ -324,7 +328,7 @@ nil_behind : {T : Type 0} (vs : List T) (v : T) → is_nil (vs ++ v ∷ []) ≡ 
 nil_behind [] v = refl
 nil_behind (x ∷ vs) v = refl
 
--- so it counts for nothing
+-- a list with one value more at its end counts for nothing where no value does
 pub not_nil : {T : Type 0} (us vs : List T) (v : T) → us ≡ vs ++ v ∷ []
     → ◌≡◌ {A = ℕ} (if is_nil us then 1 else 0) 0
 not_nil us vs v e = rw (e, nil_behind vs v) refl

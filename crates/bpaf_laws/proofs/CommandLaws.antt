@@ -45,4 +45,5 @@ module _ (called : Called) (s : Situation) (p : ℕ)
   pub inside_read : {T : Type 0} {reads : Readings T} (v : T) (t : Situation)
       → Reads T reads (inside called s p) v t
       → Reads T (CommandReads T (opening_words called) reads) s v t
-  inside_read v t read = reads_as (reads_both word_read read) (λ both. record { name = p; read = both })
+  inside_read v t read = reads_as (reads_both word_read read)
+      (λ both. record { name = p; read = both })

@@ -9,11 +9,13 @@ use Rattle.std.specs.Prelude.{◌==◌, None, Some, not, Err, Ok}
 use Rattle.bpaf_doc.specs.declared.doc.Piece.{Piece}
 use Rattle.bpaf_doc.specs.{Shape.shape_of, Shape.Shape, declared.meta.Meta.Meta}
 use Rattle.bpaf_text.specs.{declared.fault.TextFault.TextFault, Meaning.ReadsText, Named.Named}
-use Rattle.bpaf_line.specs.Situation.{with_current, count_below, take_place, with_scope, open_count}
+use Rattle.bpaf_line.specs.Situation.{with_current, take_place, with_scope, open_count}
+use Rattle.bpaf_base.specs.Count.{count_below}
 use Rattle.bpaf_line.specs.declared.error.Message.TheVariants.{ParseFailure}
 use Rattle.bpaf_line.specs.Situation.{Situation, with_path, is_taken, in_scope, Context, is_open}
 use Rattle.bpaf_line.specs.{Messages.is_answer, Messages.is_memory, declared.error.Message.Message}
-use Rattle.bpaf_line.specs.{declared.error.Error.Error, Taking.ConflictsSaved, Rendering.Renders}
+use Rattle.bpaf_line.specs.{declared.error.Error.Error, Taking.ConflictsSaved}
+use Rattle.bpaf_messages.specs.Rendering.{Renders}
 use Rattle.bpaf_line.proofs.Marks.{keeps_marks_current, keeps_marks_trans, keeps_marks_scope}
 use Rattle.bpaf_line.proofs.Places.{open_not_taken, open_in_line, taken_other, taken_stays}
 use Rattle.bpaf_line.proofs.Places.{taken_here}
@@ -24,7 +26,7 @@ use Rattle.bpaf_laws.specs.Laws.{no_memory, Refusal, wanting, Closes, Lawful, Ke
 use Rattle.bpaf_laws.specs.Laws.{NamesAnswer, HasSomeName, taken_count, refusal_of, CountFalls}
 use Rattle.bpaf_laws.specs.Product.{AppendsShapes, LastDescribes, BothReads}
 use Rattle.bpaf_laws.specs.Combinators.{FallbackOutcome, TellsFault, GivesClone}
-use Rattle.bpaf_laws.specs.Reading.{Outcome, IsPlace, IsPair, IsKept, Share, Joins}
+use Rattle.bpaf_laws.specs.Reading.{Outcome, IsPlace, IsPair, IsKept, Joins}
 use Rattle.bpaf_laws.specs.{Laws.newly, Laws.told, Leaves.FlagOutcome}
 use Rattle.bpaf_line.specs.declared.failure.ParseFailure.TheVariants as failure
 
@@ -50,7 +52,7 @@ pub lawful_by : {T : Type 0} {outcome : Outcome T} {reads : Readings T}
     → AnswersLawfully outcome reads → Lawful T outcome reads
 lawful_by answers = grind arith
 
--- and where they hold each answer is so
+-- where the laws hold each answer keeps to them
 pub lawful_answer : {T : Type 0} {outcome : Outcome T} {reads : Readings T}
     → Lawful T outcome reads → AnswersLawfully outcome reads
 lawful_answer law s x t o = grind arith
@@ -60,13 +62,6 @@ pub reads_as : {A B : Type 0} {reads : Readings A} {others : Readings B} {s : Si
     {w : B} {t : Situation} → Reads A reads s v t
     → (reads s.context (newly s t) v → others s.context (newly s t) w) → Reads B others s w t
 reads_as read also = grind arith
-
--- a parser keeps to the laws with what it reads said in another way
-pub lawful_as : {T : Type 0} {outcome : Outcome T} {reads others : Readings T}
-    → Lawful T outcome reads
-    → ((context : Context) (share : Share) (v : T) → reads context share v → others context share v)
-    → Lawful T outcome others
-lawful_as law also = grind (arith, reads_as)
 
 -- nothing is newly taken since the same situation
 pub newly_none : (s : Situation) → IsEmptyShare (newly s s)
@@ -84,7 +79,7 @@ closes_refl s p within outside = absurd (true≢false (sym within ∙ outside))
 pub closes_take : (s : Situation) (p : ℕ) → Closes s (take_place s p)
 closes_take s p q within outside = absurd (true≢false (sym within ∙ outside))
 
--- nor does taking two places, one after the other
+-- taking two places, one after the other, moves no scope
 pub closes_take_both : (s : Situation) (p q : ℕ) → Closes s (take_place (take_place s p) q)
 closes_take_both s p q r within outside = absurd (true≢false (sym within ∙ outside))
 
@@ -114,7 +109,7 @@ pub keeps_scope : (s t : Situation) (start end : ℕ) → Keeps s t
     → Keeps s (with_scope t start end)
 keeps_scope s t start end k narrows = assumption (keeps_marks_scope s t start end k.marks)
 
--- so does a name at the end of the path
+-- a name at the end of the path keeps all
 pub keeps_path : (s t : Situation) (entry : List ℕ) → Keeps s t → Keeps s (with_path t entry)
 keeps_path s t entry k = grind (arith, keeps_marks_trans, keeps_marks_path, append_assoc)
 
@@ -126,12 +121,12 @@ keeps_unset s t unset = subst (Keeps s) (sym unset) (keeps_current s s None (kee
 pub keeps_same : (s t : Situation) → t ≡ s → Keeps s t
 keeps_same s t same = subst (Keeps s) (sym same) (keeps_refl s)
 
--- and a value that may be read off no place is read
+-- where the situation is as before, a value that may be read off no place is read
 pub reads_same : {T : Type 0} (reads : Readings T) (s t : Situation) (v : T) → t ≡ s
     → reads s.context (newly s s) v → Reads T reads s v t
 reads_same reads s t v same read = grind (arith, closes_refl, keeps_refl)
 
--- so it is where no place is current any more
+-- where only no place is current any more, a value that may be read off no place is read
 pub reads_unset : {T : Type 0} (reads : Readings T) (s t : Situation) (v : T)
     → t ≡ with_current s None → reads s.context (newly s s) v → Reads T reads s v t
 reads_unset reads s t v unset read = grind (arith, closes_refl, keeps_current, keeps_refl)
@@ -144,7 +139,7 @@ taken_after s p q = grind (arith, nat_tests, taken_here, taken_other)
 pub newly_take : (s : Situation) (p : ℕ) → is_open s p ≡ true → IsPlace p (newly s (take_place s p))
 newly_take s p there q = grind (arith, nat_tests, open_not_taken, taken_after)
 
--- and all else is kept
+-- a present place of the scope is taken: all else is kept
 pub keeps_take : (s : Situation) (p : ℕ) → is_open s p ≡ true → Keeps s (take_place s p)
 keeps_take s p there =
     grind (arith, nat_tests, taken_stays, taken_after, append-nil, keeps_marks_take)
@@ -168,7 +163,7 @@ module _ {T : Type 0} (reads : Readings T) (s m loser : Situation) (winner : ℕ
   newly_conflicts : newly s t ≡ newly s m
   newly_conflicts = λ i p. ap (λ taken. taken && not (is_taken s p)) (saved.taken p) i
 
-  -- so what was read is read under them too
+  -- what was read is read under conflict notes too
   pub reads_conflicts : Reads T reads s v t
   reads_conflicts =
       let k = read.keeps in
@@ -221,7 +216,7 @@ pub shows_nothing : (m : Message) (s : Situation) (doc : List Piece) (full : Boo
     → is_answer m ≡ false → ¬ (Renders m s (failure.Stdout doc full))
 shows_nothing m s doc full other tells = grind arith
 
--- so has what is told of it
+-- what is told of a message that is no answer of an inner run has a name
 pub told_has_name : (m : Message) (s : Situation) (f : Failure) → is_answer m ≡ false
     → Renders m s f → HasSomeName s.context f
 told_has_name m s failure.Memory plain tells = (no_memory, wanting)
@@ -240,7 +235,8 @@ count_below-joined whole f g (suc n) all apart =
     grind (arith, count_below-joined whole f g n all apart)
 
 -- what is present at first is present still, or newly taken
-pub open_joins : (s t : Situation) → Keeps s t → Closes s t → Joins (is_open t) (newly s t) (is_open s)
+pub open_joins : (s t : Situation) → Keeps s t → Closes s t
+    → Joins (is_open t) (newly s t) (is_open s)
 open_joins s t k c = grind arith
 
 -- the count of present places falls by the number of newly taken ones
@@ -248,7 +244,7 @@ pub open_count-falls : (s t : Situation) → Keeps s t → Closes s t
     → open_count s ≡ open_count t + taken_count s t
 open_count-falls s t k c = grind (arith, count_below-joined, open_joins, open_joins s t k c)
 
--- so it does for every parser that keeps to the laws
+-- after a value of a lawful parser as many places fewer are present as were newly taken
 pub lawful_falls : {T : Type 0} {outcome : Outcome T} {reads : Readings T} → Lawful T outcome reads
     → CountFalls outcome
 lawful_falls law s t v answered = grind (arith, open_count-falls)
@@ -285,7 +281,7 @@ module _ {T : Type 0} {clones : T → T → Type 0}
       → FallbackOutcome inner (GivesClone IsKept kept) s r t
   fallback_kept inner kept s r t o = grind (arith, equal)
 
-  -- so a flag answers one of the two that it keeps
+  -- a flag answers one of the two values that it keeps
   pub flag_kept : (named : Named) (present : T) (absent : Option T) (s : Situation)
       (r : Result T Error) (t : Situation) → FlagOutcome clones named present absent s r t
       → FlagOutcome IsKept named present absent s r t

@@ -95,7 +95,7 @@ all_placed : (s : Situation) (places : List ℕ)
 all_placed s [] = All-nil (IsPlaced s)
 all_placed s (p ∷ places) = grind (arith, placed_more, all_placed s places)
 
--- so are those that are looked at
+-- the items that are looked at are present and in scope
 looked_placed : (s : Situation) (anywhere : Bool) → All (IsPlaced s) (looked_at anywhere s)
 looked_placed s true = all_placed s _
 looked_placed s false = All-take (IsPlaced s) 1 _ (all_placed s _)
@@ -109,7 +109,8 @@ module _ {T : Type 0} (looks : Looks T) (anywhere : Bool) (s : Situation) (place
       let there = subst (λ items. Contains items (place, item)) (sym found.split)
       (Contains-append_right found.before rest (place, item) (0, omega arith, refl)) in
       open_item_there s place item
-      (All-contains (IsPlaced s) (looked_at anywhere s) (place, item) (looked_placed s anywhere) there)
+      (All-contains (IsPlaced s) (looked_at anywhere s) (place, item) (looked_placed s anywhere)
+      there)
 
   -- the situation in which its place is taken
   abbrev m : Situation
@@ -120,7 +121,7 @@ module _ {T : Type 0} (looks : Looks T) (anywhere : Bool) (s : Situation) (place
       → AnyReads T looks s.context share v
   is_read places = grind (arith, match_placed)
 
-  -- so is the place alone
+  -- the place of a match alone is read
   alone : Reads T (AnyReads T looks) s v m
   alone = record {
     keeps = keeps_take s place match_placed.0;
@@ -128,7 +129,7 @@ module _ {T : Type 0} (looks : Looks T) (anywhere : Bool) (s : Situation) (place
     reading = is_read (inl (newly_take s place match_placed.0));
   }
 
-  -- and the match, whatever stands behind it
+  -- a match is read, whatever stands behind it
   pub match_read : Reads T (AnyReads T looks) s v (take_item s place (is_attached item))
   match_read = taken (is_attached item) (is_open m (place + 1)) refl refl
     where
@@ -171,7 +172,7 @@ pure_lawful gives names = record {
   named = λ s t e o. names s.context e o.0;
 }
 
--- so does one that answers what a closure does
+-- a leaf that answers what a closure does keeps to the laws
 pub pure_with_lawful : {T : Type 0} (gives : Gives T) → NamesGiven gives
     → Lawful T (PureWithOutcome gives) (PureReads (λ v. gives (Ok v)))
 pure_with_lawful gives names = record {
@@ -180,7 +181,7 @@ pure_with_lawful gives names = record {
   named = λ s t e o. names s.context e o.0;
 }
 
--- and one that refuses with a message
+-- a leaf that refuses with a message keeps to the laws
 pub refusal_lawful : {T : Type 0} (message : List ℕ)
     → Lawful T (PureOutcome (GivesRefusal message)) (PureReads (λ v. ⊥))
 refusal_lawful message = pure_lawful (GivesRefusal message) (λ context e gives.

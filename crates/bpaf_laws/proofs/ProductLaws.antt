@@ -1,13 +1,13 @@
 -- Products keep to the laws where their fields do, and catch no want of memory.
+use Rattle.bpaf_laws.proofs.Keeping.{AnswersLawfully, lawful_answer, keeps_current, LawfulAnswer}
+use Rattle.bpaf_laws.specs.Product.{FailFastOutcome, ProductOutcome, BothOutcome, BothReads}
 use Rattle.std.proofs.Common.{arith, inl, inr}
 use Rattle.std.specs.Prelude.{if◌then◌else◌, Result, false, true, Err, Ok}
 use Rattle.bpaf_line.specs.{declared.error.Error.Error, Situation.Situation, Messages.is_memory}
-use Rattle.bpaf_laws.proofs.Keeping.{AnswersLawfully, lawful_answer, keeps_current, LawfulAnswer}
 use Rattle.bpaf_laws.proofs.Keeping.{keeps_trans, reads_both, lawful_by, on_line}
-use Rattle.bpaf_laws.specs.Product.{FailFastOutcome, ProductOutcome, BothOutcome, BothReads, both_answers}
-use Rattle.bpaf_laws.specs.Product.{BothEval}
 use Rattle.bpaf_laws.specs.Laws.{WithoutMemory, IsNotMemory, Lawful, NamesAnswer, Spares}
-use Rattle.bpaf_laws.specs.{Reading.Readings, Reading.Outcome, Combinators.MapReads}
+use Rattle.bpaf_laws.specs.{Product.both_answers, Product.BothEval, Combinators.MapReads}
+use Rattle.bpaf_laws.specs.Reading.{Readings, Outcome}
 
 module _ {A B : Type 0} {first : Outcome A} {rest : Outcome B} {rf : Readings A} {rr : Readings B}
     (la : Lawful A first rf) (lb : Lawful B rest rr) where
@@ -16,8 +16,11 @@ module _ {A B : Type 0} {first : Outcome A} {rest : Outcome B} {rf : Readings A}
       → rest m b t → LawfulAnswer (A × B) (BothReads A B rf rr) s (both_answers a b) t
   joined_answers s m t (Ok x) (Ok y) f g = reads_both (la.ok s m x f) (lb.ok m t y g)
   joined_answers s m t (Ok x) (Err e) f g =
-      let kept = (la.ok s m x f).keeps in
-      (keeps_trans s m t kept (lb.err m t e g), on_line (λ c. NamesAnswer c e.0) s m kept (lb.named m t e g))
+      let kept = (la.ok s m x f).keeps in (
+        keeps_trans s m t kept (lb.err m t e g),
+        on_line (λ c. NamesAnswer c e.0) s m kept
+            (lb.named m t e g),
+      )
   joined_answers s m t (Err d) (Ok y) f g =
       (keeps_trans s m t (la.err s m d f) (lb.ok m t y g).keeps, la.named s m d f)
   joined_answers s m t (Err d) (Err e) f g =
@@ -29,7 +32,7 @@ module _ {A B : Type 0} {first : Outcome A} {rest : Outcome B} {rf : Readings A}
         | false ↦ (kept, la.named s m d f)
       ]
 
-  -- so is that of an evaluation of both
+  -- the answer of an evaluation of both fields is lawful
   both_ran : AnswersLawfully (BothEval A B first rest) (BothReads A B rf rr)
   both_ran s r t o = rw o.answer (joined_answers s o.middle t o.a o.b o.first_ran o.rest_ran)
 
@@ -43,7 +46,7 @@ module _ {A B : Type 0} {first : Outcome A} {rest : Outcome B} {rf : Readings A}
   fail_fast_answers s (Err e) t (inl failed) = lawful_answer la s (Err e) t failed
   fail_fast_answers s (Err e) t (inr o) = joined_answers s o.1 t (Ok o.0) (Err e) o.2 o.3
 
-  -- so they do there
+  -- fields of which a failing first one is the end keep to the laws
   pub fail_fast_lawful : Lawful (A × B) (FailFastOutcome first rest) (BothReads A B rf rr)
   fail_fast_lawful = lawful_by fail_fast_answers
 

@@ -1,22 +1,21 @@
 -- Which short names each type shows, by those that its inner parsers show.
 use Rattle.std.proofs.Common.{append_assoc, append-nil, Option, Result, arith, List, ◌++◌, refl, []}
+use Rattle.bpaf_doc.specs.Shape.{shorts_of_argument, shorts_of_flag, alternatives, parts_of_all, Or}
+use Rattle.bpaf_doc.specs.Shape.{members, Shapes, ◌then◌, Shape, parts, Many, Part, CustomUsage}
+use Rattle.bpaf_laws.specs.Combinators.{OptionalDescribes, DefaultDescribes, SectionDescribes}
+use Rattle.bpaf_laws.specs.Combinators.{TitledDescribes, UsageDescribes, ManyDescribes}
+use Rattle.bpaf_laws.specs.Laws.{FieldsShowNames, joined_shorts, of_arguments, ShowsNames, of_flags}
 use Rattle.std.proofs.Common.{◌≡◌, ◌∷◌, ap₂, ◌∙◌, ap, ℕ}
 use Rattle.std.proofs.lemmas.List.Concat.{flat_map-append}
 use Rattle.std.specs.declared.alloc.AllocError.{AllocError}
-use Rattle.bpaf_doc.specs.Shape.{shorts_of_argument, shorts_of_flag, alternatives, parts_of_all, Or}
-use Rattle.bpaf_doc.specs.Shape.{members, Shapes, ◌then◌, Shape, parts, Many, Part, CustomUsage}
-use Rattle.bpaf_doc.specs.Shape.{Subsection, shapes_of, Adjacent, Optional, Required}
-use Rattle.bpaf_doc.specs.{declared.meta.MetaInfo.MetaInfo, declared.doc.Piece.Piece, Shape.none}
+use Rattle.bpaf_doc.specs.Shape.{Subsection, shapes_of, Adjacent, Optional, Required, none}
+use Rattle.bpaf_doc.specs.{declared.meta.MetaInfo.MetaInfo, declared.doc.Piece.Piece}
 use Rattle.bpaf_words.specs.Line.{ShortNames}
 use Rattle.bpaf_text.specs.Named.{KeyWithValue, Named}
-use Rattle.bpaf_laws.specs.Choice.{ChoiceDescribes, either_shape}
-use Rattle.bpaf_laws.specs.Combinators.{OptionalDescribes, DefaultDescribes, SectionDescribes}
-use Rattle.bpaf_laws.specs.Combinators.{TitledDescribes, UsageDescribes, ManyDescribes}
-use Rattle.bpaf_laws.specs.Combinators.{SomeDescribes, usage_pieces}
-use Rattle.bpaf_laws.specs.Laws.{FieldsShowNames, joined_shorts, of_arguments, ShowsNames, of_flags}
-use Rattle.bpaf_laws.specs.Laws.{shorts_among}
 use Rattle.bpaf_laws.specs.Product.{ProductDescribes, BothDescribes, LastDescribes}
-use Rattle.bpaf_laws.specs.{Leaves.argument_shape, Leaves.flag_shape, Adjacent.GroupDescribes}
+use Rattle.bpaf_laws.specs.{Combinators.SomeDescribes, Combinators.usage_pieces, Laws.shorts_among}
+use Rattle.bpaf_laws.specs.{Choice.ChoiceDescribes, Choice.either_shape, Adjacent.GroupDescribes}
+use Rattle.bpaf_laws.specs.Leaves.{argument_shape, flag_shape}
 use Rattle.bpaf_laws.specs.Command.{CommandDescribes, Called}
 
 -- a parser of one shape, of these names

@@ -37,12 +37,12 @@ module _ {T : Type 0} (inner : Outcome T) where
   steps_spared catches first s [] t o = o
   steps_spared catches first s (v ∷ vs) t o = grind (arith, steps_spared catches false o.0 vs t o.2)
 
-  -- so are those until one stops
+  -- turns until one stops are those of inner answers that aren't want of memory
   until_stop_spared : (catches first : Bool) (s : Situation) (vs : List T) (t : Situation)
       → UntilStop inner catches first s vs t → UntilStop (WithoutMemory inner) catches first s vs t
   until_stop_spared catches first s vs t run = grind (arith, steps_spared, spared_step)
 
-  -- and until one fails of another error
+  -- turns until one fails of another error are those of inner answers that aren't want of memory
   until_error_spared : (catches first : Bool) (s : Situation) (e : Error) (t : Situation)
       → UntilError inner catches first s e t → is_memory e.0 ≡ false
       → UntilError (WithoutMemory inner) catches first s e t
@@ -54,31 +54,31 @@ module _ {T : Type 0} (inner : Outcome T) where
   spared_many catches s t r o spared =
       grind (arith, until_stop_spared catches true s, until_error_spared catches true s)
 
-  -- nor does some
+  -- some catches no want of memory
   pub spared_some : (catches : Bool) (message : List ℕ)
       → CatchesNoMemory (λ outcome. SomeOutcome outcome catches message) inner
   spared_some catches message s t r o spared =
       grind (arith, until_stop_spared catches true s, until_error_spared catches true s)
 
-  -- nor does collect
+  -- collect catches no want of memory
   pub spared_collect : {C : Type 0} (catches : Bool) (fills : List T → C → Type 0)
       → CatchesNoMemory (λ outcome. CollectOutcome outcome catches fills) inner
   spared_collect catches fills s t (Ok v) o spared = grind (arith, until_stop_spared)
   spared_collect catches fills s t (Err e) (inl failed) spared = grind (arith, until_error_spared)
   spared_collect catches fills s t (Err e) (inr refused) spared = grind (arith, both_ways)
 
-  -- nor does a run that stopped or rested
+  -- turns until one stops or rests are those of inner answers that aren't want of memory
   until_rest_spared : (s : Situation) (vs : List T) (t : Situation) → UntilRest inner s vs t
       → UntilRest (WithoutMemory inner) s vs t
   until_rest_spared s vs t (stops run) = stops (until_stop_spared false false s vs t run)
   until_rest_spared s vs t (rests v is o same) = rests v is (o, tt) same
 
-  -- nor does count
+  -- count catches no want of memory
   pub spared_count : CatchesNoMemory (λ outcome. CountOutcome outcome) inner
   spared_count s t (Ok n) o spared = (o.0, until_rest_spared s o.0 t o.1, o.2)
   spared_count s t (Err e) o spared = until_error_spared false false s e t o spared
 
-  -- nor does last
+  -- last catches no want of memory
   pub spared_last : CatchesNoMemory (λ outcome. LastOutcome outcome) inner
   spared_last s t (Ok v) (inl run) spared = inl (run.0, until_rest_spared s _ t run.1)
   spared_last s t (Ok v) (inr again) spared = grind (arith, until_rest_spared)

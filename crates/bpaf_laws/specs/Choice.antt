@@ -14,14 +14,14 @@ abbrev pub depth : Situation → ℕ
 depth s = length s.path
 
 -- an answer that is want of memory
-abbrev pub is_want : {T : Type 0} → Result T Error → Bool
-is_want (Ok v) = false
-is_want (Err e) = is_memory e.0
+abbrev pub is_memory_answer : {T : Type 0} → Result T Error → Bool
+is_memory_answer (Ok v) = false
+is_memory_answer (Err e) = is_memory e.0
 
 -- want of memory, which leaves all as before
-abbrev pub IsWant : {T : Type 0} → Situation → Result T Error → Situation → Type 0
-IsWant s (Ok v) t = ⊥
-IsWant s (Err e) t = (is_memory e.0 ≡ true) × (t ≡ s)
+abbrev pub IsMemoryAnswer : {T : Type 0} → Situation → Result T Error → Situation → Type 0
+IsMemoryAnswer s (Ok v) t = ⊥
+IsMemoryAnswer s (Err e) t = (is_memory e.0 ≡ true) × (t ≡ s)
 
 -- a branch that answered Ok: the value that it gave, and the situation that it left
 pub record AnsweredBranch (T : Type 0) : Type 0 where

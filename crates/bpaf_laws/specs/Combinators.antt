@@ -1,13 +1,13 @@
 -- Combinators over one inner parser: what changes its value, what stands in for one, repeats, and
 -- what is shown otherwise; and leaves that look at no item.
-use Rattle.std.specs.Prelude.{string_bytes, Result, Option, IfSome, String, length, false, codes, ℕ}
+use Rattle.std.specs.Prelude.{Result, Option, IfSome, String, length, false, ℕ}
 use Rattle.std.specs.Prelude.{Bool, true, List, ◌==◌, ◌&&◌, ◌||◌, Some, None, ◌++◌, ◌≡◌, ◌⊎◌, Err}
 use Rattle.std.specs.Prelude.{◌<◌, ◌≤◌, not, ◌+◌, ◌∷◌, Ok, [], ⊤}
 use Rattle.std.specs.{declared.alloc.AllocError.AllocError, declared.alloc.Global.Global}
 use Rattle.std.specs.Global.{Vec}
 use Rattle.bpaf_doc.specs.Shape.{CustomUsage, Subsection, Optional, Required, shape_of, Suffix}
 use Rattle.bpaf_doc.specs.{declared.meta.MetaInfo.MetaInfo, declared.doc.Piece.Piece}
-use Rattle.bpaf_doc.specs.{Shape.Shape, Shape.Many, Print.text_pieces}
+use Rattle.bpaf_doc.specs.{Shape.Shape, Shape.Many, Default.IsDefault, Default.IsFormatted}
 use Rattle.bpaf_line.specs.declared.error.Message.TheVariants.{ParseFailed, GuardFailed, PureFailed}
 use Rattle.bpaf_line.specs.declared.error.Message.TheVariants.{ParseFail, ParseSome, Missing}
 use Rattle.bpaf_line.specs.Situation.{with_current, open_count, Situation, Context}
@@ -140,26 +140,11 @@ DefaultDescribes inner None shape = OptionalDescribes inner shape
 DefaultDescribes inner (Some text) shape =
     (inside : Shape) × inner inside × (shape ≡ Suffix (Optional inside) text)
 
--- the text of a default behind what it stands for
-abbrev pub default_text : List ℕ → List ℕ
-default_text value = codes "[default: " ++ value ++ codes "]"
-
--- a document of the default that prints this text; of any, where it isn't known what it prints
-abbrev pub IsDefault : Option (List ℕ) → List Piece → Type 0
-IsDefault (Some text) doc = doc ≡ text_pieces (default_text text)
-IsDefault None doc = (text : List ℕ) × (doc ≡ text_pieces (default_text text))
-
--- such a document is shown
+-- a document of the default that prints this text is shown
 abbrev pub ShowsDefault : Option (List ℕ) → Option (List Piece) → Type 0
 ShowsDefault text shown = (doc : List Piece) × IsDefault text doc × (shown ≡ Some doc)
 
--- a document of the default as a closure writes it
-abbrev pub IsFormatted : {T : Type 0} → (T → Result (String Global) AllocError → Type 0) → T
-    → List Piece → Type 0
-IsFormatted writes v doc =
-    (text : String Global) × writes v (Ok text) × (doc ≡ text_pieces (default_text (string_bytes text)))
-
--- such a document is shown
+-- a document of the default as a closure writes it is shown
 abbrev pub ShowsFormatted : {T : Type 0} → (T → Result (String Global) AllocError → Type 0) → T
     → Option (List Piece) → Type 0
 ShowsFormatted writes v shown = (doc : List Piece) × IsFormatted writes v doc × (shown ≡ Some doc)
@@ -314,7 +299,7 @@ CollectIsBounded inner catches fills s (Err e) t = ⊤
 abbrev pub ManyDescribes : (Shape → Type 0) → Shape → Type 0
 ManyDescribes inner shape = (inside : Shape) × inner inside × (shape ≡ Many (Optional inside))
 
--- so is what may stand more than once, and must stand there
+-- what may stand more than once, and must stand there, is shown so
 abbrev pub SomeDescribes : (Shape → Type 0) → Shape → Type 0
 SomeDescribes inner shape = (inside : Shape) × inner inside × (shape ≡ Many (Required inside))
 

@@ -1,16 +1,16 @@
 -- What every parser keeps to, whatever it parses: its answers, the names of its refusals and of
 -- its keys, counts of places, and want of memory.
 use Rattle.std.specs.Prelude.{Option, length, Result, false, codes, List, ◌++◌, Bool, Some, None, ⊤}
-use Rattle.std.specs.Prelude.{true, ◌&&◌, ◌≡◌, not, Err, ◌+◌, ◌⊎◌, Ok, [], ℕ}
 use Rattle.bpaf_doc.specs.Shape.{shorts_of_arguments, shorts_of_flags, parts_of_all, members, Shape}
+use Rattle.std.specs.Prelude.{true, ◌&&◌, ◌≡◌, not, Err, ◌+◌, ◌⊎◌, Ok, [], ℕ}
 use Rattle.bpaf_doc.specs.{Print.printed, Print.Prints, Print.Print, declared.doc.Piece.Piece}
 use Rattle.bpaf_doc.specs.Shape.{parts, Part}
 use Rattle.bpaf_words.specs.Line.{ShortNames}
-use Rattle.bpaf_line.specs.Situation.{Context, count_below, open_count, Situation, is_taken}
-use Rattle.bpaf_line.specs.Situation.{in_scope}
+use Rattle.bpaf_line.specs.Situation.{Context, open_count, Situation, is_taken, in_scope, is_open}
 use Rattle.bpaf_line.specs.{declared.failure.ParseFailure.ParseFailure, declared.error.Error.Error}
-use Rattle.bpaf_line.specs.{declared.error.Message.Message, Messages.is_memory, Situation.is_open}
-use Rattle.bpaf_line.specs.{Rendering.Renders, Marks.KeepsMarks}
+use Rattle.bpaf_line.specs.{declared.error.Message.Message, Messages.is_memory, Marks.KeepsMarks}
+use Rattle.bpaf_base.specs.Count.{count_below}
+use Rattle.bpaf_messages.specs.Rendering.{Renders}
 use Rattle.bpaf_laws.specs.Reading.{Readings, Outcome, Share}
 use Rattle.bpaf_pages.specs.Help.{PageTexts, help_text}
 use Rattle.bpaf_line.specs.declared.failure.ParseFailure.TheVariants as failure
@@ -201,6 +201,6 @@ shorts_among items = record { flags = shorts_of_flags items; arguments = shorts_
 pub record ShowsNames (describes : Shape → Type 0) (names : ShortNames) : Type 0 where
   pub each : (shape : Shape) → describes shape → shorts_among (parts shape) ≡ names
 
--- so it is with fields
+-- whichever shapes fields show, these are their short names, those of keys inside commands too
 pub record FieldsShowNames (describe : List Shape → Type 0) (names : ShortNames) : Type 0 where
   pub each : (all : List Shape) → describe all → shorts_among (parts_of_all (members all)) ≡ names

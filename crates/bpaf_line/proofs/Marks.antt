@@ -37,7 +37,7 @@ rest_is k all xs ys is whole = is ∙ (take_rest xs k ∙ ap (drop k) whole)
 pub redone_undone : (mark : Mark) (s : Situation) → redone (steps_since mark s) (undone mark s) ≡ s
 redone_undone mark s = grind (arith, take-append-drop)
 
--- and can be done there, where each place was taken in turn
+-- the steps since a mark can be done there, where each place was taken in turn
 pub can_redo : (mark : Mark) (s : Situation) → HasReached mark s → TakenInTurn s → s.start ≤ s.end
     → s.end ≤ length s.context.line → CanRedo (steps_since mark s) (undone mark s)
 can_redo mark s fits turns ordered inside = record {
@@ -106,7 +106,7 @@ pub keeps_marks_current : (s t : Situation) (place : Option ℕ) → KeepsMarks 
 keeps_marks_current s t place keeps =
     record { fit = λ mark fits. assumption (keeps.fit mark fits); same = keeps.same }
 
--- nor does the scope
+-- another scope keeps the marks
 pub keeps_marks_scope : (s t : Situation) (start end : ℕ) → KeepsMarks s t
     → KeepsMarks s (with_scope t start end)
 keeps_marks_scope s t start end keeps =
@@ -124,7 +124,7 @@ cut_reaches n xs within = omega (arith, length-take-le n xs within)
 pub fits_undone : (mark : Mark) (s : Situation) → Fits mark s → Fits mark (undone mark s)
 fits_undone mark s fits = grind (arith, cut_reaches)
 
--- and is there already
+-- a parse gone back to a mark is there already
 pub undone_twice : (mark : Mark) (s : Situation) → undone mark (undone mark s) ≡ undone mark s
 undone_twice mark s = grind (arith, take-take)
 
@@ -199,7 +199,7 @@ same_in : (base a b : Bool) → (a && not b) ≡ false → (b && not a) ≡ fals
     → (base || a) ≡ (base || b)
 same_in base a b e f = grind arith
 
--- and where one adds what the other doesn't to what the third lacks, it holds alone
+-- a test that adds to a third what the other doesn't holds alone
 alone_in : (base a b : Bool) → (a ≡ true → base ≡ false) → (a && not b) ≡ true
     → ((base || a) ≡ true) × ((base || b) ≡ false)
 alone_in base a b free e = grind arith
@@ -244,7 +244,7 @@ module _ (s : Situation) (mark : Mark) (steps : Changes) where
         let here : is_taken s p ≡ true = taken_own p ∙ parts.0 in
         (record { differs = here ∙ sym (ap not (taken_there p ∙ parts.1)); first = before }, here)
 
-    -- and so is one that only the steps took
+    -- a first place that only the steps took is the leftmost, where both took the same before it
     leftmost_there : (p : ℕ) → is_in_first steps.taken own p ≡ true
         → ((q : ℕ) → q < p → is_taken s q ≡ is_taken other q) → IsWinner s other (false, Some p)
     leftmost_there p alone before =
@@ -310,7 +310,7 @@ module _ (i : Inside) (s : Situation) (mark : Mark) (steps : Changes) (sound : I
         in_bits q free = sound.bits q (present_in_line (undone mark s) q free)
             ∙ taken_own s mark steps q
 
-    -- and the first of either tells the winner
+    -- the first of the places that only one took tells the winner
     pub winner_as : (a b : Option ℕ) → IsLeastIn (is_in_first own theirs) a
         → IsLeastIn (is_in_first theirs own) b
         → IsWinner s (redone steps (undone mark s)) (leftmost_of a b)

@@ -7,40 +7,41 @@ use Rattle.std.proofs.Common.{arith, if◌then◌else◌, ⊎_elim, nat_lt, slic
 use Rattle.std.proofs.Common.{Option, Some, None, option_and_then, slice_get, get_or, find, nat_le}
 use Rattle.std.proofs.lemmas.Bool.{cases_lt, cases_eq, eq-eqb, or_right, and_left, and_right}
 use Rattle.std.proofs.lemmas.Bool.{and_from, and_parts, not-true, cases_Bool, true≢false, ltb-true}
-use Rattle.std.proofs.lemmas.Bool.{ltb-false, le-ltb, lt-leb}
 use Rattle.std.proofs.lemmas.List.{take_at, take-take, take-append-le, get_or_push}
 use Rattle.std.proofs.lemmas.List.{get_or_append_left, get_or-take, length_push, length-take-le}
 use Rattle.bpaf_line.specs.Situation.{Situation, is_on, is_taken, is_marker, in_scope, is_open}
-use Rattle.bpaf_line.specs.Situation.{count_below, open_count, take_place, with_trail, cut_to}
-use Rattle.bpaf_line.specs.Situation.{TakenInTurn, IsFirstPresent, item_at, IsNextOpen, HasNoneOpen}
-use Rattle.bpaf_line.specs.Situation.{first_present, IsFirstPresentWithin, AreTaken}
+use Rattle.bpaf_line.specs.Situation.{open_count, take_place, with_trail, cut_to, TakenInTurn}
+use Rattle.bpaf_line.specs.Situation.{IsFirstPresent, item_at, IsNextOpen, HasNoneOpen}
 use Rattle.bpaf_line.specs.Taking.{is_match, open_item, value_after, open_items_from, HasNoneBefore}
-use Rattle.bpaf_line.specs.Taking.{IsFirstAmong, IsFirstAlong, HasNone, IsFirst}
-use Rattle.bpaf_index.proofs.BitSets.{count_below-same, count_below-fewer, count_below-some}
-use Rattle.bpaf_index.proofs.BitSets.{is_on_push, on_others, count_below-most}
-use Rattle.bpaf_base.specs.Items.{value_text, any_item, is_key_of, is_argument_key, is_positional}
-use Rattle.bpaf_base.specs.declared.arg.Arg.TheVariants.{ArgWord, Word, PosWord}
+use Rattle.bpaf_base.proofs.Count.{count_below-same, count_below-fewer, count_below-some}
 use Rattle.bpaf_index.specs.Chained.{Chained, names_of, IsChainStart, IsChainStartOf, HasWalked}
-use Rattle.std.proofs.{Common.MatchOption, lemmas.List.take_more, lemmas.List.take_all}
-use Rattle.std.proofs.{lemmas.Bool.Decides.nat_tests, lemmas.Option.slice_get-get_or}
-use Rattle.std.proofs.lemmas.List.Folds.{list_any-append}
-use Rattle.bpaf_index.specs.{Chained.HasNoKeyFrom, Chained.class_of, Bits.IsFirstWith}
-use Rattle.bpaf_index.proofs.Chained.{same_class, early_set}
-use Rattle.std.specs.{Int.from_bool, Option.option_map_or, List.range_with_len, Prelude.cond}
-use Rattle.std.specs.Bool.{then_some}
-use Rattle.bpaf_base.specs.declared.arg.Arg.{Arg}
-use Rattle.bpaf_doc.specs.Names.{Names}
+use Rattle.std.proofs.lemmas.Bool.{ltb-false, le-ltb, lt-leb}
+use Rattle.std.proofs.{lemmas.List.take_more, lemmas.List.take_all, lemmas.Option.slice_get-get_or}
+use Rattle.std.proofs.{lemmas.List.Folds.list_any-append, lemmas.Bool.Decides.nat_tests}
+use Rattle.std.proofs.Common.{MatchOption}
+use Rattle.bpaf_line.specs.Situation.{first_present, IsFirstPresentWithin, AreTaken}
+use Rattle.bpaf_line.specs.Taking.{IsFirstAmong, IsFirstAlong, HasNone, IsFirst}
 use Rattle.bpaf_line.specs.Inside.{AreChainsOf}
+use Rattle.bpaf_base.specs.declared.arg.Arg.TheVariants.{ArgWord, Word, PosWord}
+use Rattle.bpaf_base.specs.Items.{value_text, any_item, is_key_of, is_argument_key, is_positional}
+use Rattle.bpaf_base.specs.{declared.arg.Arg.Arg, Count.count_below}
+use Rattle.bpaf_base.proofs.Count.{count_below-most}
+use Rattle.bpaf_index.proofs.Chained.{same_class, early_set}
+use Rattle.bpaf_index.proofs.BitSets.{is_on_push, on_others}
+use Rattle.bpaf_index.specs.{Chained.HasNoKeyFrom, Chained.class_of, Bits.IsFirstWith}
+use Rattle.std.specs.{Option.option_map_or, List.range_with_len, Bool.then_some, Int.from_bool}
+use Rattle.std.specs.Prelude.{cond}
+use Rattle.bpaf_doc.specs.Names.{Names}
 
 -- a present place of the scope lies in the scope
 pub open_in_scope : (s : Situation) (p : ℕ) → is_open s p ≡ true → (s.start ≤ p) × (p < s.end)
 open_in_scope s p there = grind (arith, nat_tests)
 
--- and in the line
+-- a present place of the scope lies in the line
 pub open_in_line : (s : Situation) (p : ℕ) → is_open s p ≡ true → p < length s.context.line
 open_in_line s p there = grind (arith, nat_tests)
 
--- and is not taken
+-- a present place of the scope is not taken
 pub open_not_taken : (s : Situation) (p : ℕ) → is_open s p ≡ true → is_taken s p ≡ false
 open_not_taken s p there =
     not-true (is_taken s p) (and_parts (in_scope s p) (not (is_taken s p)) there).1
@@ -120,7 +121,7 @@ on_trail_at_most s turns (suc n) within =
     in
     rw next (omega arith)
 
--- so a present place has room on it
+-- a present place has room on the trail
 pub room_on_trail : (s : Situation) (p : ℕ) → TakenInTurn s → is_taken s p ≡ false
     → length s.trail < (length s.context.line)
 room_on_trail s p turns free =
@@ -196,7 +197,7 @@ module _ (test : Arg → Bool) (s : Situation) (p : ℕ) (matches : is_match tes
   pub match_is_open : is_open s p ≡ true
   match_is_open = (both_of (is_open s p) (item_at s p) matches).0
 
-  -- and the item there passes the test
+  -- the item of a match passes the test
   pub match_has_item : option_map_or test (item_at s p) false ≡ true
   match_has_item = (both_of (is_open s p) (item_at s p) matches).1
 
@@ -237,7 +238,7 @@ items_past_closed : (s : Situation) (p : ℕ) → is_open s p ≡ false
     → open_items_from s p ≡ open_items_from s (p + 1)
 items_past_closed s p closed = grind (arith, items_past, none_past_line, cases_lt)
 
--- nor are some places one after another that aren't
+-- places one after another that aren't open are none of the open items
 items_past_all : (s : Situation) (n p : ℕ) → ((q : ℕ) → p ≤ q → q < p + n → is_open s q ≡ false)
     → open_items_from s p ≡ open_items_from s (p + n)
 items_past_all s zero p closed = let none : p + 0 ≡ p = omega arith in ap (open_items_from s)
@@ -307,7 +308,7 @@ module _ (test : Arg → Bool) (s : Situation) where
   none_closed : (q : ℕ) → is_open s q ≡ false → is_match test s q ≡ false
   none_closed q closed = ap (λ b. option_map_or test (if b then item_at s q else None) false) closed
 
-  -- nor does what is taken
+  -- what is taken passes no test
   none_taken : (q : ℕ) → is_taken s q ≡ true → is_match test s q ≡ false
   none_taken q taken = none_closed q (and_right (in_scope s q) _ (ap not taken))
 
@@ -315,12 +316,13 @@ module _ (test : Arg → Bool) (s : Situation) where
   pub none_in_front : (p : ℕ) → IsFirstPresent s p → HasNoneBefore test s p
   none_in_front p front q below = grind (arith, none_closed, and_left, lt-leb, none_taken, cases_lt)
 
-  -- nor one before a place, where none passes it before another, and all between are taken
+  -- none passes a test before a place, where none does before an earlier one and all between are
+  -- taken
   pub none_past_taken : (p r : ℕ) → HasNoneBefore test s p → AreTaken s p r → HasNoneBefore test s r
   none_past_taken p r none taken q below = ⊎_elim (λ (before : q < p). none q before)
       (λ (behind : p ≤ q). none_taken q (taken q behind below)) (cases_lt q p)
 
-  -- nor one before the next place, where none passes it up to here
+  -- none passes a test before the next place, where none does up to this one
   pub none_up_to : (p : ℕ) → HasNoneBefore test s p → is_match test s p ≡ false
       → HasNoneBefore test s (p + 1)
   none_up_to p none here q below = grind (arith, cases_lt)
@@ -455,7 +457,7 @@ pub past_scope : (test : Arg → Bool) (s : Situation) (q : ℕ) → s.end ≤ q
 past_scope test s q past = ap (λ b. option_map_or test (if b then item_at s q else None) false)
     (and_left (in_scope s q) _ (and_right _ _ (le-ltb q s.end past)))
 
--- so none is from the lesser of those two places on
+-- no key is from the lesser of the end of the scope and a place without keys behind it on
 pub none_past : (names : Names) (adjacent : Bool) (s : Situation) (low end q : ℕ)
     → HasNoKeyFrom s.context.line low → end ≡ min s.end low → end ≤ q
     → is_match (is_argument_key names adjacent) s q ≡ false

@@ -15,8 +15,8 @@ use Rattle.bpaf_line.specs.Inside.{BitsOf, IsSound, AreChainsOf, IsSoundAt, shar
 use Rattle.bpaf_line.specs.Situation.{Situation, cut_to, with_trail, with_scope, is_on, is_open}
 use Rattle.bpaf_line.specs.Situation.{is_taken, in_scope, open_count, TakenInTurn, IsFirstPresent}
 use Rattle.bpaf_line.specs.Situation.{is_marker, HasNoneOpen, Context, beginning, is_dealt_place}
-use Rattle.bpaf_index.proofs.BitSets.{count_below-none, count_below-same, count_below-cut}
-use Rattle.bpaf_index.proofs.BitSets.{count_below-most, count_below-all, count_below-fewer}
+use Rattle.bpaf_base.proofs.Count.{count_below-none, count_below-same, count_below-cut}
+use Rattle.bpaf_base.proofs.Count.{count_below-most, count_below-all, count_below-fewer}
 use Rattle.bpaf_line.proofs.Places.{put, open_count-put, put_here, put_other, put_stays}
 use Rattle.bpaf_line.proofs.Places.{in_turn_put, room_on_trail, last_put, in_turn_cut, open_in_line}
 use Rattle.bpaf_line.proofs.Places.{first_without, open_not_taken}
@@ -44,7 +44,7 @@ pub remembers_put : (s : Situation) (p : ℕ) (aside : Aside) → IsAside s asid
     → IsAside (put s p) aside
 remembers_put s p aside h = grind (arith, remembers_front, put, length-append, take-append-le)
 
--- and where fewer are, it is kept as long as no more were taken then
+-- what is kept aside of a longer trail is kept as long as no more places were taken then
 pub remembers_cut : (s : Situation) (n : ℕ) (aside : Aside) → n ≤ length s.trail
     → IsAside s aside
     → IsAside (cut_to s n) (if nat_le aside.taken n then aside else no_aside)
@@ -135,7 +135,7 @@ pub chains_anew : (s : Situation) (chains : Option Chained)
 chains_anew s chains h =
     behind_since s.context.line (λ p. false) (is_taken s) chains (λ q within e. cc) h
 
--- and where the chains begin no later, also not behind the place that is taken no more
+-- chains that begin no later don't stand behind a place that is taken no more
 pub chains_untake : (s : Situation) (p : ℕ) (old new : Option Chained)
     → IfSome old (AreChainsOf (put s p)) → IfChained (ReachBack p) old new
     → IfSome new (AreChainsOf s)
@@ -289,7 +289,7 @@ module _ (i : Inside) (s : Situation) (h : IsSoundAt i s) where
   clear_first p words change below other = change.others i.first other
       ∙ (h.bits i.first (omega (arith, h.inside)) ∙ h.first.present below)
 
-  -- and the bits of what the chains passed are set then
+  -- with one place more the bits of what the chains passed are set
   pub behind_put : (p : ℕ) (words : List ℕ) → ChangesBit i.bits.items words p true
       → IfSome i.chains (AreBehind s.context.line (has_bit words))
   behind_put p words change = grind (arith, behind_since, bits_put, put_stays)
@@ -390,7 +390,7 @@ path_cut (Some set) [] n begins some = cc
 path_cut (Some set) (entry ∷ path) zero begins some = absurd (omega arith)
 path_cut (Some set) (entry ∷ path) (suc n) begins some = begins
 
--- and so does a longer one
+-- a longer path begins with the set name, where the path does
 pub path_longer : (name : Option (List ℕ)) (path more : List (List ℕ))
     → IfSome name (λ set. slice_get path 0 ≡ Some set)
     → IfSome name (λ set. slice_get (path ++ more) 0 ≡ Some set)
@@ -479,10 +479,13 @@ pub sound_beginning : (i : Inside) (context : Context) → situation_of i ≡ be
     → ((p : ℕ) → has_bit i.bits.items p ≡ is_marker context.marker p)
     → length context.line ≤ vec_capacity i.trail
     → i.left ≡ length context.line - from_bool (is_some context.marker)
-    → IsFirstClear i.bits.items 0 (length context.line) i.first → HasNoKeyFrom context.line i.keys_end
-    → IfSome i.chains (AreBehind context.line (λ p. false)) → i.aside ≡ no_aside → i.behind ≡ i.keys_end
+    → IsFirstClear i.bits.items 0 (length context.line) i.first
+    → HasNoKeyFrom context.line i.keys_end
+    → IfSome i.chains (AreBehind context.line (λ p. false)) → i.aside ≡ no_aside → i.behind
+    ≡ i.keys_end
     → i.keys_end ≤ length context.line → IsSound i
-sound_beginning i context e marker_inside bit_for_each bits room left clear keyless behind aside none
+sound_beginning i context e marker_inside bit_for_each bits room left clear keyless behind aside
+    none
     within =
     let start = beginning context in
     let set : BitsOf start i.bits.items = bits_beginning context i.bits.items bits in

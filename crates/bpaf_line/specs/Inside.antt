@@ -2,15 +2,14 @@
 -- and of taken places, and the chains of the line. No contract above this crate speaks of these.
 use Rattle.std.specs.Prelude.{ℕ, Bool, ◌≡◌, ◌≤◌, ◌+◌, ◌&&◌, List, [], ◌∷◌, length, nat_le, nat_lt}
 use Rattle.std.specs.Prelude.{◌<◌, ◌*◌, map, string_bytes, IfSome, slice_get, Some, vec_capacity}
+use Rattle.bpaf_line.specs.Situation.{Situation, with_scope, cut_to, open_count, IsFirstPresent}
 use Rattle.std.specs.{declared.alloc.Global.Global, declared.rc.RcSlice.RcSlice, Rc.rc_slice_items}
 use Rattle.std.specs.{Option.option_map_or, Prelude.Option, Int.from_bool}
-use Rattle.bpaf_line.specs.Situation.{Situation, with_scope, cut_to, open_count, IsFirstPresent}
-use Rattle.bpaf_line.specs.declared.state.State.TheInside.{Inside}
-use Rattle.bpaf_line.specs.declared.taken.TakenPlaces.{TakenPlaces}
-use Rattle.bpaf_line.specs.Situation.{is_taken, TakenInTurn, AreTaken}
 use Rattle.bpaf_line.specs.declared.taken.TakenPlaces.TheVariants.{Empty, One, Many}
-use Rattle.bpaf_line.specs.{declared.find.Sought.Sought, declared.aside.Aside.Aside, Marks.Changes}
-use Rattle.bpaf_line.specs.declared.mark.Steps.TheInside.{Inside as InsideSteps}
+use Rattle.bpaf_line.specs.Situation.{is_taken, TakenInTurn, AreTaken}
+use Rattle.bpaf_line.specs.{declared.mark.Steps.TheInside.Inside as InsideSteps, Marks.Changes}
+use Rattle.bpaf_line.specs.{declared.taken.TakenPlaces.TakenPlaces, declared.find.Sought.Sought}
+use Rattle.bpaf_line.specs.{declared.state.State.TheInside.Inside, declared.aside.Aside.Aside}
 use Rattle.bpaf_base.specs.{Items.is_argument_key, declared.arg.Arg.Arg, Names.Names}
 use Rattle.bpaf_index.specs.{Chained.Chained, Chained.AreBehind, Chained.HasNoKeyFrom, Bits.has_bit}
 

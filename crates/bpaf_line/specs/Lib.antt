@@ -5,4 +5,3 @@ pub mod Situation
 pub mod Inside
 pub mod Marks
 pub mod Taking
-pub mod Rendering

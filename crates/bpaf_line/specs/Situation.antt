@@ -6,9 +6,9 @@ use Rattle.std.specs.Prelude.{ℕ, ◌≡◌, ◌<◌, ◌≤◌, ◌==◌, Bool
 use Rattle.std.specs.Prelude.{◌∷◌, ◌++◌, length, take, Option, Some, None, nat_lt, nat_le}
 use Rattle.std.specs.Prelude.{if◌then◌else◌, slice_get, slice_index, option_to_list, option_map}
 use Rattle.std.specs.{Prelude.find, Prelude.reverse, Prelude.◌-◌, List.range_with_len}
-use Rattle.bpaf_base.specs.declared.arg.Arg.{Arg}
-pub use Rattle.bpaf_index.specs.Bits.{is_on, count_below}
+use Rattle.bpaf_base.specs.{declared.arg.Arg.Arg, Count.count_below}
 use Rattle.bpaf_index.specs.Bits.{IsFirstWith}
+pub use Rattle.bpaf_index.specs.Bits.{is_on}
 
 -- what no evaluation changes: the line, the place of its first `--`, the environment, the set name
 pub record Context : Type 0 where

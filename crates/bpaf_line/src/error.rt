@@ -2,6 +2,7 @@
 ghost use Rattle.std.specs.Prelude.{◌≡◌, MatchResult, false, if◌then◌else◌};
 ghost use Rattle.bpaf_line.specs.Messages.{Combines, CombinesSpared, is_answer, is_memory};
 ghost use Rattle.bpaf_line.specs.declared.error.Message.TheVariants.{Memory};
+ghost use Rattle.bpaf_line.specs.Failure.{is_shown};
 ghost use Rattle.bpaf_line.specs.{Messages.can_catch, Messages.is_wrong_input, Taking.message_of};
 
 use crate::failure::ParseFailure;
@@ -97,6 +98,13 @@ impl Message {
             self,
             Message::Memory | Message::ParseFailure(ParseFailure::Memory)
         )
+    }
+
+    /// Whether it is the answer of an inner run that shows what was asked for. It takes no memory.
+    pub fn is_shown(&self) -> bool
+        ensures { result ≡ is_shown self.now }
+    {
+        matches!(self, Message::ParseFailure(ParseFailure::Stdout(..)))
     }
 
     /// Whether a parser that may do without a value goes on past it: something wasn't there, or a

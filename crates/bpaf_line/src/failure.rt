@@ -1,8 +1,10 @@
 //! How a run ends that gives no value.
 ghost use Rattle.std.specs.Prelude.{◌≡◌, IfOk, option_map, string_bytes};
-ghost use Rattle.bpaf_line.specs.Failure.{stdout_text, stderr_text, exit_code};
+ghost use Rattle.bpaf_line.specs.Failure.{end_message, stdout_text, stderr_text, exit_code};
+ghost use Rattle.bpaf_line.specs.Messages.{is_memory};
 ghost use Rattle.bpaf_line.specs.declared.failure.ParseFailure.TheVariants.{Memory};
 
+use crate::error::Message;
 use bpaf_doc::Doc;
 use std::alloc::AllocError;
 
@@ -18,6 +20,24 @@ pub enum ParseFailure {
 }
 
 impl ParseFailure {
+    /// Whether it is want of memory, as [`Message::is_memory`]. It takes none.
+    pub fn is_memory(&self) -> bool
+        ensures { result ≡ is_memory (end_message self.now) }
+    {
+        matches!(self, ParseFailure::Memory)
+    }
+
+    /// The end of an inner run, as a refusal of its command: want of memory stays that. It takes no
+    /// memory.
+    pub fn into_message(self) -> Message
+        ensures { result ≡ end_message self }
+    {
+        match self {
+            ParseFailure::Memory => Message::Memory,
+            failure => Message::ParseFailure(failure),
+        }
+    }
+
     /// An equal one (bpaf's `Clone`); refused only for want of memory.
     pub fn copy(&self) -> Result<ParseFailure, AllocError>
         ensures { IfOk result (λ new. new ≡ self.now) }

@@ -1,10 +1,9 @@
 //! The first key with one of some names, and the first word, found along the chains of those.
-ghost use Rattle.std.specs.Prelude.{◌≡◌, ◌<◌, ◌≤◌, Bool, IfSome, MatchOption, length, true};
 ghost use Rattle.bpaf_line.specs.Taking.{HasNoneBefore, IsFirstAmong, IsFirstAlong, is_match};
+ghost use Rattle.std.specs.Prelude.{◌≡◌, ◌<◌, ◌≤◌, Bool, IfSome, MatchOption, length, true};
 ghost use Rattle.bpaf_line.specs.Inside.{AreChainsOf, is_sought, sought_names};
-ghost use Rattle.bpaf_base.specs.Items.{is_argument_key, is_positional};
 ghost use Rattle.bpaf_line.specs.{Taking.HasNone, Taking.IsFirst, Situation.AreTaken};
-ghost use Rattle.bpaf_base.specs.declared.arg.Arg.{Arg};
+ghost use Rattle.bpaf_base.specs.{Items.is_argument_key, Items.is_positional, declared.arg.Arg.Arg};
 
 use crate::state::State;
 use bpaf_doc::Text;

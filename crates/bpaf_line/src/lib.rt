@@ -23,9 +23,7 @@
 //! - [`Message`], [`Error`] and [`ParseFailure`] say why a parser, or a whole run, gives no value.
 //!   A [`Message`] is want of memory (`is_memory`), one past which an optional parser goes on
 //!   (`can_catch`), one for which the words are at fault (`is_wrong_input`; specs/Messages.antt),
-//!   or none of these. Of two there is one by `Combines`. Its text is `message_text`, made of what
-//!   the line shows and of the items that were looked for furthest on (specs/Rendering.antt);
-//!   `bpaf_messages` makes its text.
+//!   or none of these. Of two there is one by `Combines`. `bpaf_messages` makes its text.
 //!
 //! The source of the design is bpaf's `args.rs` and `error.rs`.
 #![tactic(auto)]

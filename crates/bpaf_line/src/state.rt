@@ -1,18 +1,17 @@
 //! A parse in progress, and what its calls read and set.
 ghost use Rattle.std.specs.Prelude.{◌≡◌, ◌+◌, ◌++◌, ◌&&◌, ◌<◌, ◌≤◌, ◌^◌, ◌==◌, [], ◌∷◌};
 ghost use Rattle.std.specs.Prelude.{if◌then◌else◌, not, nat_lt, nat_le, length, slice_get, true};
-ghost use Rattle.std.specs.Prelude.{false, MatchOption, option_copied, option_map};
-ghost use Rattle.std.specs.Prelude.{option_and_then, Some, None, IfOk, OnOk, OnErr, IfSome};
-ghost use Rattle.std.specs.Prelude.{string_bytes, map, List, ℕ, ◌*◌, ◌≢◌};
+ghost use Rattle.std.specs.Prelude.{false, MatchOption, option_copied, option_map, option_and_then};
+ghost use Rattle.std.specs.Prelude.{Some, None, IfOk, OnOk, OnErr, IfSome, string_bytes, map, List};
 ghost use Rattle.bpaf_line.specs.Taking.{IsMissingIn, open_items, open_items_from, items_left};
-ghost use Rattle.bpaf_line.specs.Taking.{HasNone, IsFirst, value_after, open_item};
 ghost use Rattle.bpaf_line.specs.Situation.{item_at, open_count, is_taken, is_open, take_place};
 ghost use Rattle.bpaf_line.specs.Situation.{with_trail, with_scope, with_path, with_current};
+ghost use Rattle.std.specs.Prelude.{ℕ, ◌*◌, ◌≢◌};
+ghost use Rattle.bpaf_line.specs.Taking.{HasNone, IsFirst, value_after, open_item, entry_of};
+ghost use Rattle.bpaf_line.specs.{Situation.HasNoneOpen, Situation.IsNextOpen, Marks.KeepsMarks};
 ghost use Rattle.bpaf_index.specs.Bits.{has_bit, IsFirstClear};
 ghost use Rattle.bpaf_doc.specs.Shape.{part_of};
-ghost use Rattle.bpaf_base.specs.{declared.arg.Arg.Arg, Items.is_positional, Items.word_text};
-ghost use Rattle.bpaf_line.specs.{Taking.entry_of, Situation.HasNoneOpen, Situation.IsNextOpen};
-ghost use Rattle.bpaf_line.specs.Marks.{KeepsMarks};
+ghost use Rattle.bpaf_base.specs.{Items.is_positional, Items.word_text, declared.arg.Arg.Arg};
 
 use crate::aside::Aside;
 use crate::error::{Error, Message};

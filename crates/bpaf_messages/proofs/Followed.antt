@@ -1,10 +1,9 @@
 -- The texts of phrases behind another one, and of more than two documents.
-use Rattle.std.proofs.Common.{◌≡◌, ◌≤◌, ◌∙◌, ◌∷◌, ◌++◌, ℕ, List, [], append_assoc, append-nil}
-use Rattle.std.proofs.Common.{ap, sym, refl, arith, length, get_or, map, true, codes}
+use Rattle.std.proofs.Common.{◌≡◌, ◌≤◌, ◌∙◌, ◌∷◌, ◌++◌, ℕ, List, [], append_assoc, append-nil, ap}
+use Rattle.std.proofs.Common.{sym, refl, arith, length, get_or, map, true, codes}
 use Rattle.bpaf_doc.specs.{Print.printed, Print.in_backticks, declared.doc.Piece.Piece}
-use Rattle.bpaf_line.specs.Rendering.{one_of_texts}
 use Rattle.bpaf_messages.specs.Phrases.{followed_by, phrase_text, phrases_text}
-use Rattle.bpaf_messages.specs.declared.phrases.Phrase.{Phrase}
+use Rattle.bpaf_messages.specs.{declared.phrases.Phrase.Phrase, Rendering.one_of_texts}
 
 -- those behind a text are it and theirs
 pub text_behind : (text : List ℕ) (phrases : List Phrase)

@@ -5,7 +5,8 @@ use Rattle.bpaf_line.specs.Situation.{Situation, line_item, Context, beginning, 
 use Rattle.bpaf_base.specs.{declared.arg.Arg.Arg, declared.arg.Arg.TheVariants.Short}
 use Rattle.bpaf_base.specs.declared.arg.Arg.TheVariants.{Long}
 use Rattle.bpaf_line.specs.{Situation.conflict_at, declared.failure.ParseFailure.ParseFailure}
-use Rattle.bpaf_line.specs.{declared.error.Message.Message, Rendering.Renders}
+use Rattle.bpaf_line.specs.{declared.error.Message.Message}
+use Rattle.bpaf_messages.specs.Rendering.{Renders}
 use Rattle.bpaf_line.specs.declared.failure.ParseFailure.TheVariants as failure
 use Rattle.bpaf_line.specs.declared.error.Message.TheVariants as message
 

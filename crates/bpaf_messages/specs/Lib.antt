@@ -1,2 +1,3 @@
 pub mod Leftover
 pub mod Phrases
+pub mod Rendering

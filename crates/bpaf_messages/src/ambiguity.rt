@@ -3,8 +3,8 @@ ghost use Rattle.std.specs.Prelude.{◌≡◌, ◌++◌, true, IfOk, OnOk, chars
 ghost use Rattle.std.specs.Prelude.{encode_utf8_all, codes, unwrap_or};
 ghost use Rattle.bpaf_doc.specs.Print.{printed};
 ghost use Rattle.bpaf_line.specs.declared.error.Message.TheVariants.{Ambiguity};
-ghost use Rattle.bpaf_line.specs.Rendering.{message_text, advice_text};
-ghost use Rattle.bpaf_line.specs.Rendering.{dashed, dashed_with_rest, split_options};
+ghost use Rattle.bpaf_messages.specs.Rendering.{message_text, advice_text};
+ghost use Rattle.bpaf_messages.specs.Rendering.{dashed, dashed_with_rest, split_options};
 
 use crate::phrases::Phrase::{Literal, Plain, Term};
 use crate::phrases::of_phrases;

@@ -1,7 +1,8 @@
 //! The last earlier key of the same name.
 ghost use Rattle.std.specs.Prelude.{◌≡◌, MatchOption, Some};
 ghost use Rattle.bpaf_line.specs.Situation.{line_item};
-ghost use Rattle.bpaf_messages.specs.Leftover.{have_one_name, repeats, IsEarlierKey, HasNoEarlierKey};
+ghost use Rattle.bpaf_messages.specs.Leftover.{have_one_name, repeats, IsEarlierKey};
+ghost use Rattle.bpaf_messages.specs.Leftover.{HasNoEarlierKey};
 
 use bpaf_line::State;
 use bpaf_words::{Arg, is_key};

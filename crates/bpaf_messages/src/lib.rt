@@ -3,7 +3,8 @@
 //! It stands on `bpaf_line`, whose states and messages it reads. For the layers above:
 //!
 //! - [`render`] makes the text of a [`Message`](bpaf_line::Message) in the state that the refusing
-//!   parser left: the `message_text` of `bpaf_line`.
+//!   parser left, of what the line shows and of the items that were looked for furthest on
+//!   (`message_text`; specs/Rendering.antt).
 //! - [`leftover`] is the message of the first item that is left (specs/Leftover.antt): what
 //!   excludes it; else the last earlier key of its kind and name, which [`earlier_key`] finds
 //!   (specs/Leftover.antt); else that it isn't expected.

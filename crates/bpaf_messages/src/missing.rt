@@ -1,9 +1,9 @@
 //! The texts of what was expected and is missing.
 ghost use Rattle.std.specs.Prelude.{◌≡◌, ◌++◌, true, IfOk, OnOk, map};
 ghost use Rattle.bpaf_doc.specs.{Shape.part_text, Shape.part_of, Print.printed};
-ghost use Rattle.bpaf_line.specs.Rendering.{furthest, reaches, in_one_scope, is_command};
-ghost use Rattle.bpaf_line.specs.Rendering.{told_parts, one_of_texts, got_text, expected_of};
-ghost use Rattle.bpaf_line.specs.Rendering.{missing_text, message_text};
+ghost use Rattle.bpaf_messages.specs.Rendering.{furthest, reaches, in_one_scope, is_command};
+ghost use Rattle.bpaf_messages.specs.Rendering.{told_parts, one_of_texts, got_text, expected_of};
+ghost use Rattle.bpaf_messages.specs.Rendering.{missing_text, message_text};
 ghost use Rattle.bpaf_line.specs.{declared.error.Message.TheVariants.Expected, Missing.missed_of};
 
 use crate::phrases::Phrase::{Plain, Quoted, Wrong};

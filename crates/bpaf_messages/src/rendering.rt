@@ -1,10 +1,10 @@
 //! The texts of messages.
+ghost use Rattle.bpaf_messages.specs.Rendering.{message_text, side_text, parse_failed_text};
+ghost use Rattle.bpaf_messages.specs.Rendering.{guard_failed_text, no_argument_text};
+ghost use Rattle.bpaf_messages.specs.Rendering.{only_once_text, IsRefusal, Renders, shown_item};
 ghost use Rattle.std.specs.Prelude.{◌≡◌, ◌++◌, true, IfOk, Some, None, codes, map, option_copied};
 ghost use Rattle.bpaf_doc.specs.Print.{printed};
-ghost use Rattle.bpaf_line.specs.Rendering.{message_text, side_text, parse_failed_text};
-ghost use Rattle.bpaf_line.specs.Rendering.{guard_failed_text, no_argument_text, only_once_text};
-ghost use Rattle.bpaf_line.specs.Rendering.{IsRefusal, Renders, shown_item, word_at, quoted_word};
-ghost use Rattle.bpaf_line.specs.Rendering.{key_behind};
+ghost use Rattle.bpaf_messages.specs.Rendering.{word_at, quoted_word, key_behind};
 
 use crate::ambiguity::ambiguity;
 use crate::missing::{expected_items, missing};

@@ -1,7 +1,7 @@
 //! What messages show of the items of a line.
 ghost use Rattle.std.specs.Prelude.{◌≡◌, IfOk, option_copied, option_map, string_bytes};
-ghost use Rattle.bpaf_line.specs.Rendering.{shown_item, key_of, word_at, key_behind};
-ghost use Rattle.bpaf_line.specs.Rendering.{before_value, key_before, quoted_word};
+ghost use Rattle.bpaf_messages.specs.Rendering.{shown_item, key_of, word_at, key_behind};
+ghost use Rattle.bpaf_messages.specs.Rendering.{before_value, key_before, quoted_word};
 
 use bpaf_doc::Text;
 use bpaf_line::State;

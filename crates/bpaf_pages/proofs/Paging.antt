@@ -1,15 +1,14 @@
 -- Joined documents, the lines that a walk gathers, and the paragraphs of a help page.
 use Rattle.std.proofs.Common.{◌≡◌, ℕ, List, [], ◌∷◌, ap, ◌∙◌, refl, zero, suc, ◌+◌, ◌<◌, ◌++◌, map}
 use Rattle.std.proofs.Common.{sym, drop, length, get_or, arith, drop-cons, add-one, append_assoc}
-use Rattle.std.proofs.lemmas.List.{length-map, map-append, get_or-map}
-use Rattle.std.proofs.{lemmas.Grind.fold-append, Common.codes}
-use Rattle.bpaf_doc.specs.Print.{Print, Prints, prints}
-use Rattle.bpaf_doc.specs.{declared.doc.Piece.Piece, declared.doc.Doc.Doc}
 use Rattle.bpaf_pages.specs.Help.{glued, joined_behind, Line, Below, lines, below_last, nothing}
 use Rattle.bpaf_pages.specs.Help.{joined, PageTexts, section, sections, opening, lists, widest}
-use Rattle.bpaf_pages.specs.InsideLine.{line_of}
+use Rattle.std.proofs.lemmas.List.{length-map, map-append, get_or-map}
+use Rattle.std.proofs.{lemmas.Grind.fold-append, Common.codes}
+use Rattle.bpaf_doc.specs.{Print.Print, Print.Prints, Print.prints, declared.doc.Piece.Piece}
+use Rattle.bpaf_doc.specs.declared.doc.Doc.{Doc}
 use Rattle.bpaf_pages.specs.Help.{paragraph, paragraphs, page, prints_of}
-use Rattle.bpaf_pages.specs.{declared.lines.Line.Line as LineHere}
+use Rattle.bpaf_pages.specs.{declared.lines.Line.Line as LineHere, InsideLine.line_of}
 use denote.Bor.{Bor}
 use Rattle.bpaf_pages.specs.declared.lines.Told.TheVariants as told
 

@@ -93,7 +93,7 @@ module _ {T : Type 0} {inner inner' : Readings T} (also : IsAlso inner inner') w
     each_also context read.1 vs read.5,
   )
 
-  -- so it is where the first share may be empty
+  -- values one after another, of which the first share may be empty
   list_also : IsAlso (ListReads inner) (ListReads inner')
   list_also context share [] none = none
   list_also context share (v ∷ vs) read =

@@ -1,6 +1,6 @@
 -- Parsers of programs all of whose values on the same words look alike.
-use Rattle.std.proofs.Common.{◌≡◌, ◌∙◌, All, Bool, IsUtf8, List, Option, ap, arith, map, string_bytes}
-use Rattle.std.proofs.Common.{sym, true≢false, ℕ}
+use Rattle.std.proofs.Common.{◌≡◌, ◌∙◌, All, Bool, IsUtf8, List, Option, ap, arith, map}
+use Rattle.std.proofs.Common.{string_bytes, sym, true≢false, ℕ}
 use Rattle.bpaf_doc.specs.{Names.Names, declared.doc.Piece.Piece}
 use Rattle.bpaf_words.specs.{Arguments.Given, Line.Known}
 use Rattle.bpaf_text.specs.{Meaning.SpellsUnsigned, Named.KeyWithValue}

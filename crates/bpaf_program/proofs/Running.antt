@@ -1,5 +1,6 @@
 -- A program that prints its answer runs to the texts that answer its words, or to a part of one.
-use Rattle.std.proofs.Common.{inl, Ok, ◌≡◌, ℕ, Bool, List, Result, Err, string_bytes, codes, All, IfOk}
+use Rattle.std.proofs.Common.{inl, Ok, ◌≡◌, ℕ, Bool, List, Result, Err, string_bytes, codes, All}
+use Rattle.std.proofs.Common.{IfOk}
 use Rattle.std.proofs.Common.{IsUtf8, map, refl, slice_index_or, subst, sym, ap, ◌==◌, true, false}
 use Rattle.std.proofs.Common.{◌-◌, [], ◌∷◌, ◌++◌, Option, OnOk, OnErr, take, drop, length, ◌∙◌}
 use Rattle.std.proofs.KnownBytes.{Appends-trans, Appends-kept}
@@ -7,7 +8,8 @@ use Rattle.std.proofs.lemmas.List.{take_rest, take-append-drop}
 use Rattle.std.proofs.Common.{append_assoc, ◌<◌, ◌+◌, ◌||◌, not, ap₂, arith, drop-cons, get_or, suc}
 use Rattle.std.proofs.{lemmas.Str.IsUtf8-string_bytes, lemmas.List.Elements.All-map}
 use Rattle.std.specs.Io.KnownBytes.{Appends, Keeps}
-use Rattle.std.specs.{Result.IfErr, Result.IsErr, Result.IsErrAnd, declared.alloc.Global.Global, Prelude.String}
+use Rattle.std.specs.{Result.IfErr, Result.IsErr, Result.IsErrAnd, declared.alloc.Global.Global}
+use Rattle.std.specs.{Prelude.String}
 use Rattle.bpaf_doc.specs.{declared.doc.Piece.Piece, Print.printed}
 use Rattle.bpaf_line.specs.declared.failure.ParseFailure.{ParseFailure}
 use Rattle.bpaf_line.specs.declared.failure.ParseFailure.TheVariants.{Stdout, Stderr, Memory}
@@ -55,7 +57,7 @@ module _ (said : List ℕ → Type 0) (page : List Piece → Bool → Type 0) wh
   page_answers : (f : ParseFailure) → IfShown page f → AnswersText (OrPage said page) (Err f)
   page_answers f is = grind arith
 
-  -- so does an answer that is such a text or shows such a page
+  -- an answer gives such a text or shows such a page
   said_answers : (r : Result (String Global) ParseFailure)
       → IfOk r (λ text. said (string_bytes text)) → IfErr r (IfShown page)
       → AnswersText (OrPage said page) r
@@ -81,7 +83,8 @@ prints_text {out} {err} is answers =
     wants f is own = absurd cc
 
     prints : {text : List ℕ} {r : Result (String Global) ParseFailure} {status : ℕ}
-        → IsPrinted out err string_bytes r status → IsTextOrWant text r → RunPrints text out err status
+        → IsPrinted out err string_bytes r status → IsTextOrWant text r
+        → RunPrints text out err status
     prints (given is quiet) own = written (rw own at is) quiet
     prints (told {f = f} is) own = wants f is own
 
@@ -110,7 +113,7 @@ module _ {answers : List ℕ → Type 0} {V : Type 0} {value : V → Type 0} {te
     };
   }
 
--- so it is where a refusal shows one of these pages
+-- a refusal shows one of these pages, or memory is wanted for its text
 pub refused_page : {said : List ℕ → Type 0} {page : List Piece → Bool → Type 0} {V : Type 0}
     {value : V → Type 0} {text_of : V → List ℕ} → Alike text_of value → {f : ParseFailure}
     → IfShown page f → IsExactFor value (Err f)
@@ -150,7 +153,7 @@ written_next {before} {middle} {after} next {rest} so_far more = record {
 
 module _ {before middle after : Option (List ℕ)} {rest text : List ℕ}
     (so_far : IsWrittenBut before middle rest text) where
-  -- so it is with the next n bytes
+  -- the next n bytes of the rest are written, and what is behind them is left
   pub written_on : (n : ℕ) → Appends middle after (take n rest)
       → IsWrittenBut before after (take (length rest - n) (drop n rest)) text
   written_on n more = written_next (take n rest) (record {
@@ -214,7 +217,7 @@ part_behind {known = known} {before} {middle} {after} text whole is = record {
   failed = is.failed;
 }
 
--- so it is behind the texts that are written, and before those that are left
+-- behind the texts that are written a part of the next one is one of all
 pub part_of_next : {S : Type 0} {known : KnownSink S} {before middle after : S}
     {next : List ℕ} (rest : List ℕ) {text : List ℕ}
     → IsWrittenBut (known.contents before) (known.contents middle) (next ++ rest) text

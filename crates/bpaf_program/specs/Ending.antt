@@ -81,7 +81,8 @@ pub data TellsLine (err : Written) (line : List ℕ) : ℕ → Type 0 where
 -- message, or that memory was wanted. Where a write fails a beginning of that is written, and
 -- nothing after it.
 abbrev pub TellsFailure : (out err : Written) → ParseFailure → ℕ → Type 0
-TellsFailure out err (Stdout doc full) status = IsShown out (printed full doc) status × IsUntouched err
+TellsFailure out err (Stdout doc full) status = IsShown out (printed full doc) status
+    × IsUntouched err
 TellsFailure out err (Stderr doc) status =
     IsUntouched out × TellsLine err (error_line (printed true doc)) status
 TellsFailure out err Memory status = IsUntouched out × TellsLine err memory_line status

@@ -93,7 +93,7 @@ pub record IsKnownParser {T : Type 0} (known made : Grammar T) : Type 0 where
   pub shown : shorts_of made ≡ shorts_of known
   pub hands : HandsOn (inner_pages known) (outcome_of made)
 
--- so are fields
+-- fields are known to be made by a grammar as a parser is
 pub record AreKnownFields {V : Type 0} (known made : FieldsGrammar V) : Type 0 where
   pub law : (variables : Variables)
       → FormLaw variables (outcome_of made) (keys_of known true) [] (program_form known variables)

@@ -8,8 +8,8 @@ use std::alloc::Global;
 use std::marker::PhantomData;
 
 /// The command of this name over a parser, as `parser.into_options(alloc).into_command(name)`. It
-/// takes no memory, so the name has at most 23 bytes. Nothing is asked of the parser, so that nothing
-/// has to be found of it.
+/// takes no memory, so the name has at most 23 bytes. Nothing is asked of the parser, so that
+/// nothing has to be found of it.
 ///
 /// ```text
 /// plain_command(alloc, "list", construct!(Task::List { max })).help("Lists the tasks")

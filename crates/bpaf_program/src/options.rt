@@ -2,7 +2,7 @@
 ghost use Rattle.bpaf_grammar.specs.Grammar.{outcome_of, reads_of, describes_of, shorts_of};
 ghost use Rattle.std.specs.{Prelude.◌≡◌, Prelude.IfOk, Prelude.true, Prelude.Result, Result.IfErr};
 ghost use Rattle.bpaf_words.specs.Arguments.{given_of, Given};
-ghost use Rattle.bpaf.specs.Run.{IsNotWant, RunsWords, IsDealtOut, known_names};
+ghost use Rattle.bpaf.specs.Run.{IsNotMemoryFailure, RunsWords, IsDealtOut, known_names};
 ghost use Rattle.bpaf.specs.Refusals.{IsOneOfTwelve};
 ghost use Rattle.bpaf_laws.specs.Laws.{WithoutMemory};
 ghost use Rattle.bpaf_program.specs.Ending.{Ends, wrote};
@@ -43,10 +43,13 @@ impl<T: Drop, P: Parser<T>> Program<T> for OptionParser<T, P> {
 
     ghost answers = { λ p given r.
         let known = known_names p.info (shorts_of (P.grammar p.inner)) in
-        RunsWords T (outcome_of (P.grammar p.inner)) (describes_of (P.grammar p.inner)) p.info known given r
-        × (IfErr r (IsOneOfTwelve (outcome_of (P.grammar p.inner)) (describes_of (P.grammar p.inner)) p.info known given)
+        RunsWords T (outcome_of (P.grammar p.inner)) (describes_of (P.grammar p.inner)) p.info known
+        given r
+        × (IfErr r (IsOneOfTwelve (outcome_of (P.grammar p.inner))
+        (describes_of (P.grammar p.inner)) p.info known given)
         × (IfOk r (IsDealtOut T (reads_of (P.grammar p.inner)) known given)
-        × (IsNotWant r → RunsWords T (WithoutMemory (outcome_of (P.grammar p.inner))) (describes_of (P.grammar p.inner))
+        × (IsNotMemoryFailure r → RunsWords T (WithoutMemory (outcome_of (P.grammar p.inner)))
+        (describes_of (P.grammar p.inner))
         p.info known given r))) };
 
     fn run<S: Sink, E: Sink>(&self, args: Args<'_>, out: &mut S, err: &mut E) -> Result<T, u8> {
@@ -74,7 +77,7 @@ pub fn run_record<T: Drop, R: Record<T>, S: Sink, E: Sink>(
     ensures { Ends (λ r. R.answers options.now (given_of args.entry) r
         × (IfErr r (R.refuses options.now (given_of args.entry))
         × (IfOk r (R.deals options.now (given_of args.entry))
-        × ((IsNotWant r → R.answers_spared options.now (given_of args.entry) r)
+        × ((IsNotMemoryFailure r → R.answers_spared options.now (given_of args.entry) r)
         × ((R.agrees options.now → IfOk r (R.tells options.now (given_of args.entry)))
         × ((R.agrees options.now → R.answers_as_program options.now (given_of args.entry) r)
         × (R.agrees options.now → R.answers_by_fields options.now (given_of args.entry) r)))))))
@@ -103,7 +106,7 @@ pub fn run_program<T: Drop, R: CommandLine<T>, S: Sink, E: Sink>(
     ensures { Ends (λ r. R.answers options.now (given_of args.entry) r
         × (IfErr r (R.refuses options.now (given_of args.entry))
         × (IfOk r (R.deals options.now (given_of args.entry))
-        × ((IsNotWant r → R.answers_spared options.now (given_of args.entry) r)
+        × ((IsNotMemoryFailure r → R.answers_spared options.now (given_of args.entry) r)
         × ((R.agrees options.now → IfOk r (R.tells options.now (given_of args.entry)))
         × (R.agrees options.now → R.answers_as_program options.now (given_of args.entry) r))))))
         (wrote S.known out.old out.new) (wrote E.known err.old err.new) result }

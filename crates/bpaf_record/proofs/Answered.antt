@@ -65,7 +65,7 @@ module _ (known : Known) where
   part_of (first ∷ words) (items ∷ parts) word spelled (suc k, within, is) =
       grind (arith, Contains-append_right, part_of words parts word spelled.1 (k, omega arith, is))
 
-  -- so the items that one spells are
+  -- the items that one of these words spells are among those of all
   among_all : (words : List (List ℕ)) (items own : List Arg) (word : List ℕ) (item : Arg)
       → SpellAll known words items → All IsUtf8 words → HasNoMarker words → Contains words word
       → Spells known word (Items own) → Contains own item → Contains items item
@@ -84,7 +84,7 @@ module _ (test : Arg → Bool) where
   abbrev pub HasPassing : List Arg → Type 0
   HasPassing items = (item : Arg) × Contains items item × (test item ≡ true)
 
-  -- what is kept of items passes,
+  -- what is kept of items passes
   of_kept : (items : List Arg) → filter test items ≢ [] → HasPassing items
   of_kept items some = first (filter test items) some
       (All-filter test (Contains items) items (All-contains_itself items))
@@ -96,7 +96,7 @@ module _ (test : Arg → Bool) where
       first (item ∷ kept) some among passes =
           (item, among 0 item (omega arith), passes 0 item (omega arith))
 
-  -- and what passes is kept
+  -- items of which one passes keep some
   some_kept : (items : List Arg) → HasPassing items → filter test items ≢ []
   some_kept items (item, (k, within, is), passes) none =
       let more = count_by_more_yes test items k item within (ap test is ∙ passes) in
@@ -107,7 +107,7 @@ module _ (test : Arg → Bool) where
 
   module _ (known : Known) (given : Given) (context : Context) (is : IsContext known given context)
     where
-      -- an item of the line that passes is spelled by one of the words before the first `--`,
+      -- an item of the line that passes is spelled by one of the words before the first `--`
       pub item_spelled : ((text : List ℕ) → test (PosWord text) ≡ false)
           → HasPassing (present (line_cells context)) → IsSpelledItem known test given.words
       item_spelled not_behind (item, among, passes) =
@@ -126,7 +126,7 @@ module _ (test : Arg → Bool) where
             };
           }) (λ text passes. absurd (true≢false (sym passes ∙ not_behind text)))) among passes
 
-      -- and one that one of these spells stands on it
+      -- an item that one of these words spells stands on the line
       spelled_item : All IsUtf8 given.words → IsSpelledItem known test given.words
           → HasPassing (present (line_cells context))
       spelled_item texts one =
@@ -160,7 +160,7 @@ module _ (names : Names) where
         ≡ map first_item (keyed (names ∷ []) os)
     keys_on = cut_kept (is_key_of names) value_is_no_key cut ∙ keys_first os
 
-    -- A piece that begins with a key is spelled by one of the words before the first `--`,
+    -- A piece that begins with a key is spelled by one of the words before the first `--`.
     pub piece_was_spelled : keyed (names ∷ []) os ≢ [] → WasSpelled known names given.words
     piece_was_spelled some = item_spelled (is_key_of names) known given context on (λ text. refl)
         (of_kept (is_key_of names) (present (line_cells context))
@@ -170,7 +170,7 @@ module _ (names : Names) where
         map_none [] e = refl
         map_none (p ∷ ps) e = absurd cc
 
-    -- and where one of them spells it there is such a piece.
+    -- A key that one of the words before the first `--` spells has a piece that begins with it.
     pub spelled_has_piece : All IsUtf8 given.words → WasSpelled known names given.words
         → keyed (names ∷ []) os ≢ []
     spelled_has_piece texts spelled none =
@@ -221,7 +221,7 @@ long_is_spelled known names words name there is key = record {
   };
 }
 
--- so does `-c` of an ASCII character, where no number is a word
+-- `-c` spells the key of an ASCII character, where no number is a word
 pub short_is_spelled : (known : Known) → known.numbers ≡ false → (names : Names)
     (words : List (List ℕ)) (c : ℕ) → Contains (words_before words) (codes "-" ++ c ∷ []) → c < 128
     → c ≢ dash_char → is_among names.shorts c ≡ true → WasSpelled known names words
@@ -279,7 +279,7 @@ flag_among names text (c ∷ cs) one = ⊎_elim
     (one.0, Contains-append_right (Short c false text ∷ []) (flags_of [] cs) one.0 one.1, one.2))
     (or_cases (is_among names.shorts c) _ one)
 
--- so is that of the argument behind them
+-- the key of the argument behind joined flags is among their items
 argument_among : (names : Names) (text : List ℕ) (c : ℕ) (rest : List ℕ)
     → list_any (λ c. is_among names.shorts c) (c ∷ []) ≡ true
     → HasPassing (is_key_of names) (argument_of text c rest)
@@ -320,7 +320,7 @@ module _ (known : Known) (plain : known.numbers ≡ false) (names : Names) (word
       };
     }
 
-    -- Joined flags spell each key that one of the letters names,
+    -- Joined flags spell each key that one of the letters names.
     pub flags_are_spelled : (c d : ℕ) (cs : List ℕ)
         → Contains (words_before words) (codes "-" ++ c ∷ d ∷ cs) → c ≢ dash_char
         → are_letters (c ∷ d ∷ cs) ≡ true → are_flags known.names (c ∷ d ∷ cs) ≡ true
@@ -329,7 +329,8 @@ module _ (known : Known) (plain : known.numbers ≡ false) (names : Names) (word
         joined_spells c d cs (flags_of (codes "-" ++ c ∷ d ∷ cs) (c ∷ d ∷ cs)) there dash letters
         (flags (known_flags known.names (c ∷ d ∷ cs) are)) (flag_among names _ (c ∷ d ∷ cs) one)
 
-    -- and so do flags and then an argument with its value, as `-vn1`, or one alone, as `-n1`.
+    -- Flags joined with an argument and its value, as `-vn1`, or one alone, as `-n1`, spell its
+    -- key.
     pub value_is_spelled : (first second : ℕ) (more before : List ℕ) (c : ℕ) (value : List ℕ)
         → first ∷ second ∷ more ≡ before ++ c ∷ value
         → Contains (words_before words) (codes "-" ++ first ∷ second ∷ more) → first ≢ dash_char
@@ -376,41 +377,41 @@ module _ {known : Known} {words : List (List ℕ)} {key : Names} {os : List Line
   pub key_spelled : os ≢ [] → IsKeySpelled
   key_spelled some names same = subst (λ z. WasSpelled known z words) same (own.spelled some)
 
-  -- So was that of a value that needs a piece,
+  -- The key of a value that needs a piece was spelled.
   pub value_spelled : {A : Type 0} {inside : Said A} {x : A} → NeedsPiece inside
       → inside os x → IsKeySpelled
   value_spelled needs so = grind (arith, key_spelled)
 
-  -- of an argument's value where no variable of its is set,
+  -- The key of an argument's value was spelled where no variable of its is set.
   pub argument_spelled : {A : Type 0} {means : List ℕ → A → Type 0} {last : Bool}
       {set : Option (List ℕ)} {x : A} → ArgumentSays means last set os x → set ≡ None → IsKeySpelled
   argument_spelled {A} {means} {last} {set} {x} so unset =
       value_spelled {x = x} (argument_needs {means = means} {last = last} unset) so
 
-  -- of a switch that is true then,
+  -- The key of a switch that is true was spelled where no variable of its is set.
   pub switch_spelled : {present : Bool} {absent : Option Bool} {set : Option (List ℕ)} {b : Bool}
       → FlagSays (λ kept x. x ≡ kept) present absent set os b → absent ≡ Some false → set ≡ None
       → (names : Names) → key ≡ names → (switch : Bool) → switch ≡ b → switch ≡ true
       → WasSpelled known names words
   switch_spelled x off unset names same switch value on = grind (arith, key_spelled)
 
-  -- of a required flag that has its value then,
+  -- The key of a required flag that has its value was spelled where no variable of its is set.
   pub flag_spelled : {A : Type 0} {clones : A → A → Type 0} {present : A} {absent : Option A}
       {set : Option (List ℕ)} {x : A} → FlagSays clones present absent set os x → absent ≡ None
       → set ≡ None → (names : Names) → key ≡ names → clones present x × WasSpelled known names words
   flag_spelled x required unset names same = grind (arith, key_spelled)
 
-  -- of an optional value that is Some,
+  -- The key of an optional value that is Some was spelled.
   pub optional_spelled : {A : Type 0} {inside : Said A} {o : Option A} → NeedsPiece inside
       → OptionalSays inside os o → (value : Option A) → value ≡ o → IsSome value → IsKeySpelled
   optional_spelled needs x value same some = grind (arith, value_spelled)
 
-  -- of a value under a fallback that isn't what stands in its place,
+  -- The key of a value that isn't what a fallback stands in with was spelled.
   pub fallback_spelled : {A : Type 0} {inside : Said A} {kept : A → Type 0} {x : A}
       → NeedsPiece inside → FallbackSays inside kept os x → ¬ (kept x) → IsKeySpelled
   fallback_spelled needs x other = grind (arith, value_spelled)
 
-  -- and of a repeat that isn't empty.
+  -- A repeat that isn't empty spells the key.
   pub repeat_spelled : {A : Type 0} {inside : Said A} {xs : List A} → NeedsPiece inside
       → RepeatSays inside os xs → (values : List A) → values ≡ xs → values ≢ [] → IsKeySpelled
   repeat_spelled needs so values same some = grind (arith, key_spelled, repeat_needs)
@@ -456,12 +457,12 @@ module _ {known : Known} {words : List (List ℕ)} {os : List LinePiece}
   IfKeySpelled key A = (names : Names) → key ≡ names → All IsUtf8 words
       → WasSpelled known names words → A
 
-  -- A key that was spelled has a piece of its own,
+  -- A key that was spelled has a piece of its own.
   pub spelled_key : {key : Names} → IfKeySpelled key (keyed (key ∷ []) os ≢ [])
   spelled_key {key} names same texts spelled =
       line.spelled key texts (subst (λ z. WasSpelled known z words) (sym same) spelled)
 
-  -- so its switch is true,
+  -- A switch whose key was spelled is true.
   pub spelled_switch : {key : Names} {present : Bool} {absent : Option Bool} {set : Option (List ℕ)}
       {b : Bool} → FlagSays (λ kept x. x ≡ kept) present absent set (keyed (key ∷ []) os) b
       → present ≡ true → (switch : Bool) → switch ≡ b → IfKeySpelled key (switch ≡ true)
@@ -470,7 +471,7 @@ module _ {known : Known} {words : List (List ℕ)} {os : List LinePiece}
   spelled_switch (says_absent a none set kept is) on switch value names same texts
       spelled = absurd (spelled_key names same texts spelled none)
 
-  -- an optional value Some,
+  -- An optional value whose key was spelled is Some.
   pub spelled_optional : {key : Names} {A : Type 0} {inside : Said A} {o : Option A}
       → OptionalSays inside (keyed (key ∷ []) os) o → (value : Option A) → value ≡ o
       → IfKeySpelled key (IsSome value)
@@ -478,7 +479,7 @@ module _ {known : Known} {words : List (List ℕ)} {os : List LinePiece}
   spelled_optional (says_none is none) value e names same texts spelled =
       absurd (spelled_key names same texts spelled none)
 
-  -- and a repeat not empty.
+  -- A repeat whose key was spelled isn't empty.
   pub spelled_repeat : {key : Names} {A : Type 0} {inside : Said A} {xs : List A}
       → RepeatSays inside (keyed (key ∷ []) os) xs → (values : List A) → values ≡ xs
       → IfKeySpelled key (values ≢ [])
@@ -497,7 +498,7 @@ pub record IsLeft (left cs : Cells) : Type 0 where
 all_left : {cs : Cells} → IsLeft cs cs
 all_left = record { each = λ k there. there }
 
--- so it is where a cell is there still,
+-- a cell that is there still is left
 still_there : {left cs : Cells} (c : Option Arg) → IsLeft left cs → IsLeft (c ∷ left) (c ∷ cs)
 still_there {left} {cs} c l = record {
   each = λ k there. ⊎_elim (λ here. Contains-append_left (option_to_list c) (present cs) k here)
@@ -505,7 +506,7 @@ still_there {left} {cs} c l = record {
       (Contains-append_cases (option_to_list c) (present left) k there);
 }
 
--- and where it is gone
+-- a cell that is gone is left out
 gone : {left cs : Cells} (c : Option Arg) → IsLeft left cs → IsLeft (None ∷ left) (c ∷ cs)
 gone {cs = cs} c l = record {
   each = λ k there. Contains-append_right (option_to_list c) (present cs) k (l.each k there);
@@ -525,7 +526,7 @@ opens_left : {words : List (List ℕ)} {cs ds : Cells} → Opens words cs ds →
 opens_left (opens_here {k = k} is) = gone (Some k) all_left
 opens_left (opens_later o) = still_there None (opens_left o)
 
--- so is one that passes a test
+-- what stands behind a command's word and passes a test stands on the whole line
 kept_on : (test : Arg → Bool) {left cs : Cells} → IsLeft left cs → HasPassing test (present left)
     → HasPassing test (present cs)
 kept_on test l (k, among, passes) = (k, l.each k among, passes)
@@ -546,7 +547,7 @@ own_first key owns k behind is = (
       (or_cases (is_key_of key k) false (owns.own k is)),
 )
 
--- and own pieces begin with one
+-- own pieces begin with a key of their names
 owned_on : {q : Roles} (key : Names) → Owns q (key ∷ []) → {cs left : Cells}
     {os : List LinePiece} → Takes q cs os left → os ≢ [] → HasPassing (is_key_of key) (present cs)
 owned_on key owns no_cells some = absurd (some refl)
@@ -581,7 +582,7 @@ told_line {given = given} told by is words are = record {
 
 module _ {known : Known} {given : Given} {words : List (List ℕ)} {cs : Cells}
     (line : LeftOfLine known given words cs) where
-  -- So it is without the pieces of a field.
+  -- What is left of a line without the pieces of a field is left of that line.
   pub without_field : {q : Roles} {os : List LinePiece} {left : Cells} → Takes q cs os left
       → LeftOfLine known given words left
   without_field taken = record {
@@ -660,12 +661,12 @@ line_behind {known} {given} {context} is cut =
 -- What the fields leave.
 
 module _ (q : Roles) (named : IsNamed q) where
-  -- so it leaves all items that do,
+  -- Fields of keys leave all items behind the first `--`.
   others_are : (os : List LinePiece) → items_behind (others q os) ≡ items_behind os
   others_are [] = refl
   others_are (o ∷ os) = grind (arith, others_are os)
 
-  -- and all texts,
+  -- Fields of keys leave all texts behind the first `--`.
   pub others_behind : (os : List LinePiece) → pieces_behind (others q os) ≡ pieces_behind os
   others_behind os = ap (map item_text) (others_are os)
 
@@ -674,13 +675,13 @@ pub flag_leaves : (names : Names) (os : List LinePiece)
     → pieces_behind (others (flag_roles names) os) ≡ pieces_behind os
 flag_leaves names os = grind (arith, others_behind, test_named)
 
--- A word that has to stand before `--` leaves all of it,
+-- A word that has to stand before `--` leaves all that stands behind it.
 pub name_before : {T : Type 0} {means : List ℕ → T → Type 0} (ws : List LinePiece) {v : T}
     → WordSays (accepts NonStrict) means (front (OneWord true) ws) v
     → pieces_behind (back (OneWord true) ws) ≡ pieces_behind ws
 name_before ws so = grind (arith, not-true, of_front_one)
 
--- and a repeat of words that have to stand behind it reads it, in order.
+-- A repeat of words that have to stand behind `--` reads them all, in order.
 pub strict_words : {T : Type 0} {means : List ℕ → T → Type 0} {ws : List LinePiece} {vs : List T}
     → RepeatSays (WordSays (accepts Strict) means) ws vs → AllZip means (pieces_behind ws) vs
 strict_words {T} {means} {ws} {vs} so = each ws vs (word_values so)

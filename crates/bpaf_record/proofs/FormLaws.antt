@@ -1,9 +1,10 @@
--- Each parser keeps to the law of the form that its grammar has: what it answers and takes depends on
--- what is its own alone.
+-- Each parser keeps to the law of the form that its grammar has: what it answers and takes depends
+-- on what is its own alone.
 use Rattle.std.specs.Prelude.{Bool, List, [], not, true, false, ℕ}
 use Rattle.bpaf_doc.specs.Names.{Names}
 use Rattle.bpaf_laws.specs.{Command.CommandPart, Reading.Outcome}
-use Rattle.bpaf_grammar.specs.Grammar.{Default, FieldsGrammar, GrammarOf, Look, Repeat, Step, alone, answered}
+use Rattle.bpaf_grammar.specs.Grammar.{Default, FieldsGrammar, GrammarOf, Look, Repeat, Step, alone}
+use Rattle.bpaf_grammar.specs.Grammar.{answered}
 use Rattle.bpaf_grammar.specs.Grammar.{argument, both, choice, cloned, closed, collect, command}
 use Rattle.bpaf_grammar.specs.Grammar.{command_words, count, default_gives, describes_of, dressed}
 use Rattle.bpaf_grammar.specs.Grammar.{fallback, flag, stretch, guarded, hide, kept, keys_of, last}

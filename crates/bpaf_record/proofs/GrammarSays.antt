@@ -101,7 +101,7 @@ mutual
   grammar_says (product makes g) variables =
       program_con_says (map_closure makes) (fields_say g variables)
 
-  -- and those of fields do
+  -- the values of fields say so
   pub fields_say : {V : Type 0} (g : FieldsGrammar V) (variables : Variables)
       → FieldsSay (keys_of g true) (program_form g variables) (ends_in_commands g)
       (says g variables) (cells_say g variables)

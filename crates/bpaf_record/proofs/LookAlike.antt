@@ -16,7 +16,8 @@ use Rattle.bpaf_exact.specs.ProgramForm.{program_dressed, program_field, program
 use Rattle.bpaf_exact.specs.Says.{Alike, HasOneView, Respects, pair_view}
 use Rattle.bpaf_grammar.specs.declared.position.Position.{Position}
 use Rattle.bpaf_grammar.specs.Grammar.{Default, FieldsGrammar, Grammar, GrammarOf, Look, Repeat}
-use Rattle.bpaf_grammar.specs.Grammar.{Step, alone, answered, argument, both, choice, cloned, closed}
+use Rattle.bpaf_grammar.specs.Grammar.{Step, alone, answered, argument, both, choice, cloned}
+use Rattle.bpaf_grammar.specs.Grammar.{closed}
 use Rattle.bpaf_grammar.specs.Grammar.{command, dressed, fallback, flag, guarded}
 use Rattle.bpaf_grammar.specs.Grammar.{keys_of, kept, last, mapped, only, optional, parsed, product}
 use Rattle.bpaf_grammar.specs.Grammar.{repeat, word}
@@ -32,7 +33,7 @@ pub data SeenAs : (fields : Bool) → (T X : Type 0) → (T → X) → GrammarOf
   flag_seen : {T X : Type 0} {see : T → X} {clones : T → T → Type 0} {key : Key} {present : T}
       {absent : Option T} → ((value : T) → Alike see (clones value))
       → SeenAs false T X see (flag clones key present absent)
-  -- so do the values that one text means
+  -- the values that one text means look alike
   argument_seen : {T X : Type 0} {see : T → X} {means : List ℕ → T → Type 0} {key : KeyWithValue}
       → ((text : List ℕ) → Alike see (means text)) → SeenAs false T X see (argument means key)
   word_seen : {T X : Type 0} {see : T → X} {means : List ℕ → T → Type 0} {position : Position}
@@ -75,7 +76,7 @@ pub data SeenAs : (fields : Bool) → (T X : Type 0) → (T → X) → GrammarOf
       {g : FieldsGrammar A} → Respects A B X Y see look (map_closure makes) → SeenAs true A X see g
       → SeenAs false B Y look (product makes g)
 
--- so it is said of a view of its values
+-- a view of a parser's values by which those of one line look alike
 abbrev pub IsSeen : {fields : Bool} {T X : Type 0} → (T → X) → GrammarOf fields T → Type 1
 IsSeen {fields = fields} {T = T} {X = X} see g = SeenAs fields T X see g
 
@@ -89,7 +90,7 @@ step_agrees_on (parsed answers shown) form respects inner one =
 step_agrees_on (guarded checks message) form respects inner one =
     (inner, λ variables. view_agrees respects.apart (form variables) (one variables))
 
--- so does one that stands in for a value
+-- a closure that stands in for a value agrees
 default_agrees_on : {T : Type 0} (d : Default T) {premise : Type 0} → premise
     → default_agrees d (Unit {0}) → default_agrees d premise
 default_agrees_on (cloned clones value) inner agrees = inner
@@ -100,7 +101,7 @@ dressed_view : {T X : Type 0} (see : T → X) (s : ProgramForm T) → HasOneView
     → HasOneView see (program_dressed s)
 dressed_view see s one = grind arith
 
--- nor does a choice of one
+-- a choice of one changes no value
 only_view : {T X : Type 0} (see : T → X) (s : ProgramForm T) → HasOneView see s
     → HasOneView see (choice_only s)
 only_view see s one = grind arith
@@ -129,7 +130,8 @@ mutual
 
   -- its values look alike
   pub view_seen : {fields : Bool} {T X : Type 0} {see : T → X} {g : GrammarOf fields T}
-      → SeenAs fields T X see g → (variables : Variables) → HasOneView see (program_form g variables)
+      → SeenAs fields T X see g → (variables : Variables)
+      → HasOneView see (program_form g variables)
   view_seen (flag_seen {T = T} {X = X} {see = see} {clones = clones} {key = key} {present = present}
       {absent = absent} one) variables = flag_view T X see clones one key present absent variables
   view_seen (argument_seen {T = T} {X = X} {see = see} {means = means} {key = key} one) variables =

@@ -51,7 +51,7 @@ pub listed_part_is : {T B : Type 0} (f : Closure (List T) B) (s : ProgramForm T)
     → completed_part (form_part s) ≡ form_part (program_closed f (completed repeated (OwnList T) s))
 listed_part_is f s = grind (arith, repeated_is)
 
--- and of one that may catch
+-- what is made of a repeat that may catch
 pub repeat_part_is : {T B : Type 0} (catch : Bool) (f : Closure (List T) B) (s : ProgramForm T)
     → part_if (not catch) (completed_part (form_part s))
     ≡ form_part (program_if (not catch) (program_closed f (completed repeated (OwnList T) s)))
@@ -90,7 +90,8 @@ pub record_part_is : {T : Type 0} (s : ProgramForm T) → is_record_part (form_p
 record_part_is s = grind arith
 
 -- a program
-pub program_part_is : {T : Type 0} (s : ProgramForm T) → is_program_part (form_part s) ≡ is_program s
+pub program_part_is : {T : Type 0} (s : ProgramForm T) → is_program_part (form_part s)
+    ≡ is_program s
 program_part_is s = grind arith
 
 -- a command
@@ -145,7 +146,7 @@ module _ {P T : Type 0} (of : P → Grammar T) where
   one_more (p ∷ ps) (suc i) d some l = ap (choices_of of) (take_more (p ∷ ps) (suc i) d l)
       ∙ nested_more of (of p) (take i ps) (slice_index_or (p ∷ ps) (suc i) d)
 
-  -- and of the first alone it is that one
+  -- of the first parser of a list alone a choice is that one
   pub first_is : (ps : List P) (d : P) → 1 ≤ length ps
       → choices_of of (take 1 ps) ≡ of (slice_index_or ps 0 d)
   first_is xs d some = grind arith
@@ -164,12 +165,12 @@ module _ {P T : Type 0} (of : P → Grammar T) where
           ∙ (ap (λ z. z ++ flat_map (λ p. list (of p)) ps) (two g (of p))
           ∙ append_assoc (list g) (list (of p)) (flat_map (λ p. list (of p)) ps))
 
-  -- so are its keys
+  -- the keys of a choice are those of all its parsers
   pub choices_keys : (ps : List P) (deep : Bool)
       → keys_of (choices_of of ps) deep ≡ flat_map (λ p. keys_of (of p) deep) ps
   choices_keys ps deep = choices_listed (λ g. keys_of g deep) refl (λ g h. refl) ps
 
-  -- and its words
+  -- the command words of a choice are those of all its parsers
   pub choices_words : (ps : List P)
       → command_words (choices_of of ps) ≡ flat_map (λ p. command_words (of p)) ps
   choices_words ps = choices_listed command_words refl (λ g h. refl) ps

@@ -41,12 +41,12 @@ use Prim.Native.Nat.compare
 abbrev pub present : Cells → List Arg
 present cs = flat_map option_to_list cs
 
--- of places they are all items, where none is the marker,
+-- of places all items are present, where none is the marker
 all_present : (items : List Arg) → present (first_cells (slice_get items) (length items)) ≡ items
 all_present [] = refl
 all_present (k ∷ items) = ap (λ ks. k ∷ ks) (all_present items)
 
--- and all others, where one is
+-- of places all items but the marker are present, where one is it
 others_present : (items : List Arg) (marker : Arg) (rest : List Arg)
     → present (first_cells (λ p. if p == length items then None else
     slice_get (items ++ marker ∷ rest) p) (length (items ++ marker ∷ rest))) ≡ items ++ rest
@@ -69,7 +69,7 @@ from_cut : {known : Known} {words : List (List ℕ)} {items here : List Arg}
 from_cut {known} {words} {items} {here} before rest cut none first spells are =
     grind (arith, two_sides, two_sides before rest none first)
 
--- so it is on the line of words
+-- what is present on the line of words, cut at the first `--`
 pub on_line : (known : Known) (words : List (List ℕ)) (line : List Arg) (marker : Option ℕ)
     → IsLine known words line marker → ArePresent known words (present
     (first_cells (λ p. if is_marker marker p then None else slice_get line p) (length line)))
@@ -94,7 +94,7 @@ at_place at (suc n) (suc p) item within is =
 module _ (P : Arg → Type 0) {known : Known} {given : Given} {context : Context}
     (is : IsContext known given context) (each : EachOf known P (words_before given.words))
     (behind : (text : List ℕ) → P (PosWord text)) where
-  -- What holds of each item before the first `--`, and of each word behind, holds of all present,
+  -- What holds of each item before the first `--`, and of each word behind, holds of all present.
   pub each_present : All P (present (line_cells context))
   each_present =
       let there = on_line known given.words context.line context.marker is.is_line in
@@ -103,7 +103,7 @@ module _ (P : Arg → Type 0) {known : Known} {given : Given} {context : Context
       (of_words known P (words_before given.words) there.items there.spells each)
       (All-map P PosWord (words_behind given.words) (λ k d within. behind _)))
 
-  -- and of the item at a place.
+  -- What holds of each item before the first `--`, and of each word behind, holds at each place.
   pub each_at : (p : ℕ) (item : Arg) → item_in context p ≡ Some item → P item
   each_at p item at = All-contains P (present (line_cells context)) item each_present (at_place
       (item_in context) (length context.line) p item (slice_get_within context.line p item
@@ -250,7 +250,7 @@ pub is_flat_form : {T : Type 0} (form : ProgramForm T) (names : List Names) (inf
     → is_flat_record form names info ≡ true → is_record form ≡ true
 is_flat_form form names info e = (and_parts (is_record form) _ e).0
 
--- and are a program
+-- options that are a flat record are a program
 pub flat_is_whole : {T : Type 0} (form : ProgramForm T) (names : List Names) (info : RunInfo)
     → is_flat_record form names info ≡ true → is_whole_program form names info ≡ true
 flat_is_whole x names info e = grind (arith, and_parts)

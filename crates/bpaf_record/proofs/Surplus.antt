@@ -118,7 +118,7 @@ takes_words (of_kind ByName) = false
 takes_words (of_kind k) = true
 takes_words of_rest = false
 
--- so are those of a repeat
+-- the pieces of a repeat are positional words, where those of one value are
 repeated_takes : (kind : SaidKind) → takes_words (repeated_kind kind) ≡ takes_words kind
 repeated_takes (of_kind ByName) = refl
 repeated_takes (of_kind (OneWord stops)) = refl
@@ -208,7 +208,8 @@ KindWords limit ByName = Unit {0}
 KindWords limit (OneWord stops) = IsWithin limit 1
 KindWords limit (EachWord stops) = limit ≡ None
 
--- so it is with a field of a form; and a product leaves no more pieces to others than that
+-- a field of such a form takes no more words than the limit; a product leaves no more than it to
+-- others
 abbrev FormWords : {T : Type 0} → Option ℕ → ProgramForm T → Type 0
 FormWords limit (single wide k q group gap) = KindWords limit k
 FormWords limit (complete wide k q value) = KindWords limit k
@@ -216,7 +217,7 @@ FormWords {T} limit (product wide named q fields) =
     (os : List LinePiece) (v : T) → fields.value os v → IsWithin limit (length (others q os))
 FormWords limit _ = Unit {0}
 
--- so it is with a form
+-- a form takes no more words than the limit
 record HasLimit {T : Type 0} (limit : Option ℕ) (s : ProgramForm T) : Type 0 where
   by : FormWords limit s
 

@@ -10,8 +10,9 @@ use Rattle.bpaf_line.specs.Situation.{open_count, Situation}
 use Rattle.bpaf_line.specs.declared.error.Message.{Message}
 use Rattle.bpaf_laws.specs.Command.{opening_words, IsOpenedAt, Called, inside}
 use Rattle.bpaf_laws.specs.Reading.{Outcome}
-use Rattle.bpaf_parts.specs.Failures.{end_message}
-use Rattle.bpaf_grammar.specs.Command.{EitherCommandOutcome, CommandOutcome, no_memory, missing, value}
+use Rattle.bpaf_line.specs.Failure.{end_message}
+use Rattle.bpaf_grammar.specs.Command.{EitherCommandOutcome, CommandOutcome, no_memory, missing}
+use Rattle.bpaf_grammar.specs.Command.{value}
 use Rattle.bpaf_grammar.specs.Command.{ended}
 use Rattle.bpaf.specs.Leftover.{not_expected, IsLeftover, only_once, conflict}
 use Rattle.bpaf.specs.Ending.{leftover as told_leftover, refused as told_refusal, passed_on, memory}

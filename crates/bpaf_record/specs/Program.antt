@@ -7,7 +7,8 @@ use Rattle.bpaf_laws.specs.{Command.opening_words, Reading.first_set}
 use Rattle.bpaf_keys.specs.Info.{RunInfo}
 use Rattle.bpaf_grammar.specs.Grammar.{Default, Grammar, GrammarOf, Repeat, Step, alone, answered}
 use Rattle.bpaf_grammar.specs.Grammar.{argument, both, choice, cloned, closed, collect, command}
-use Rattle.bpaf_grammar.specs.Grammar.{command_words, count, dressed, fallback, flag, stretch, guarded}
+use Rattle.bpaf_grammar.specs.Grammar.{command_words, count, dressed, fallback, flag, stretch}
+use Rattle.bpaf_grammar.specs.Grammar.{guarded}
 use Rattle.bpaf_grammar.specs.Grammar.{kept, keys_of, last, made, many, mapped, only, optional, own}
 use Rattle.bpaf_grammar.specs.Grammar.{parsed, product, repeat, some, word}
 use Rattle.bpaf_grammar.specs.Positional.{accepts}
@@ -88,8 +89,8 @@ program_form (product makes g) variables =
     program_con (map_closure makes) (program_form g variables)
 program_form _ variables = no_program
 
--- The premise of exactness: whether a closure accepts depends on the pieces alone, or round commands
--- on what is present. A closure that never refuses needs none.
+-- The premise of exactness: whether a closure accepts depends on the pieces alone, or round
+-- commands on what is present. A closure that never refuses needs none.
 abbrev pub step_agrees : {A B : Type 0} → Step A B → (premise : Type 0)
     → (Variables → ProgramForm A) → Type 0
 step_agrees (mapped answers) premise form = premise
@@ -122,7 +123,8 @@ agrees_of _ = Unit {0}
 
 -- whether its pieces are keys or words, and how many of the words it takes
 abbrev pub said_kind : {fields : Bool} {T : Type 0} → GrammarOf fields T → Variables → SaidKind
-said_kind (word means position metavar help) variables = of_kind (OneWord (not (accepts position true)))
+said_kind (word means position metavar help) variables = of_kind
+    (OneWord (not (accepts position true)))
 said_kind (closed f g) variables = said_kind g variables
 said_kind (dressed look g) variables = said_kind g variables
 said_kind (optional catch g) variables = said_kind g variables

@@ -2,7 +2,7 @@
 use Rattle.std.specs.Prelude.{IsUtf8, Result, Option, false, Bool, ◌&&◌, IfOk, List, true, None, Ok}
 use Rattle.std.specs.Prelude.{Some, ◌≡◌, All, Err, not}
 use Rattle.std.specs.Result.{IfErr}
-use Rattle.bpaf.specs.Run.{IsNotWant}
+use Rattle.bpaf.specs.Run.{IsNotMemoryFailure}
 use Rattle.std.specs.{List.list_all, List.Contains, Prelude.ℕ}
 use Rattle.bpaf_base.specs.Items.{is_text_among, is_key_of, is_among}
 use Rattle.bpaf_base.specs.declared.arg.Arg.{Arg}
@@ -51,11 +51,12 @@ pub record HasWholeLine {T : Type 0} (known : Known) (g : Grammar T) (given : Gi
   pub no_surplus : HasNoSurplus g is_value.read.cut_into
 
 -- the pieces that the line of words is cut into for the record
-pub record PiecesOf {T : Type 0} (known : Known) (form : ProgramForm T) (given : Given) : Type 0 where
-  pub context : Context
-  pub on_line : IsContext known given context
-  pub cut_into : List LinePiece
-  pub cut : Cut (product_roles (whole_program form)) (line_cells context) cut_into
+pub record PiecesOf {T : Type 0} (known : Known) (form : ProgramForm T) (given : Given) : Type 0
+  where
+    pub context : Context
+    pub on_line : IsContext known given context
+    pub cut_into : List LinePiece
+    pub cut : Cut (product_roles (whole_program form)) (line_cells context) cut_into
 
 -- each field of the record has a value on its portion of these
 abbrev pub EachHasValue : {T : Type 0} → ProgramForm T → List LinePiece → Type 0
@@ -114,7 +115,7 @@ pub record ProgramRan {T : Type 0} (agrees : Type 0)
   pub outcome : answers r
   pub named : IfErr r refuses
   pub dealt : IfOk r deals
-  pub memory_is_never_caught : IsNotWant r → spared r
+  pub memory_is_never_caught : IsNotMemoryFailure r → spared r
   pub fields : agrees → IfOk r tells
   pub exact : agrees → answers_exactly r
 

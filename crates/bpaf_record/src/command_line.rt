@@ -9,7 +9,7 @@ ghost use Rattle.bpaf_record.specs.Program.{program_form};
 ghost use Rattle.bpaf_record.specs.Record.{is_whole_program, AnswersAsProgram, TellsOfWords};
 ghost use Rattle.bpaf_record.specs.Record.{NoneUnless, ProgramRan};
 ghost use Rattle.bpaf_line.specs.declared.failure.ParseFailure.{ParseFailure};
-ghost use Rattle.bpaf.specs.Run.{IsNotWant};
+ghost use Rattle.bpaf.specs.Run.{IsNotMemoryFailure};
 ghost use Rattle.bpaf_exact.specs.Flat.{Variables};
 
 use crate::field::ProgramField;
@@ -82,7 +82,7 @@ pub trait CommandLine<T> {
         ensures outcome { answers self.now (given_of args.entry) result }
         ensures named { IfErr result (refuses self.now (given_of args.entry)) }
         ensures dealt { IfOk result (deals self.now (given_of args.entry)) }
-        ensures memory_is_never_caught { IsNotWant result →
+        ensures memory_is_never_caught { IsNotMemoryFailure result →
             answers_spared self.now (given_of args.entry) result }
         ensures fields { agrees self.now →
             IfOk result (tells self.now (given_of args.entry)) }

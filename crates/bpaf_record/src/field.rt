@@ -9,11 +9,11 @@ use crate::part::ProgramPart;
 use crate::words::WordTest;
 use bpaf::{Fields, Parser};
 
-/// A parser that may be a field of a program, a command, or a program itself. Its grammar tells what
-/// it is to one (`program_form`), its keys and the words of its commands, and what its value says of
-/// the pieces that are its own (`says`), or of the cells of its scope where it ends in commands
-/// (`cells_say`). By the law of its form, `law_of`, what it answers and takes depends on what is its
-/// own alone.
+/// A parser that may be a field of a program, a command, or a program itself. Its grammar tells
+/// what it is to one (`program_form`), its keys and the words of its commands, and what its value
+/// says of the pieces that are its own (`says`), or of the cells of its scope where it ends in
+/// commands (`cells_say`). By the law of its form, `law_of`, what it answers and takes depends on what is
+/// its own alone.
 pub trait ProgramField<T>: Parser<T> {
     /// What it is to a program, which is the same in each environment. It takes no memory.
     fn part(&self) -> ProgramPart
@@ -28,7 +28,8 @@ pub trait ProgramField<T>: Parser<T> {
 
     /// Whether each word of its commands passes a test. It takes no memory.
     fn all_words<W: WordTest>(&self, test: &W) -> bool
-        ensures { result ≡ list_all (W.accepts test.now) (command_words (Self.Parser.grammar self.now)) };
+        ensures { result ≡ list_all (W.accepts test.now)
+            (command_words (Self.Parser.grammar self.now)) };
 }
 
 /// The mark of a parser that may be a field of a flat record, or a flat record itself. It has no

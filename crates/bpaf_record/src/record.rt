@@ -7,7 +7,7 @@ ghost use Rattle.bpaf_grammar.specs.Grammar.{keys_of};
 ghost use Rattle.bpaf_record.specs.Program.{program_form};
 ghost use Rattle.bpaf_record.specs.Record.{is_flat_record, AnswersByFields, NoneUnless, ProgramRan};
 ghost use Rattle.bpaf_line.specs.declared.failure.ParseFailure.{ParseFailure};
-ghost use Rattle.bpaf.specs.Run.{IsNotWant};
+ghost use Rattle.bpaf.specs.Run.{IsNotMemoryFailure};
 ghost use Rattle.bpaf_exact.specs.Flat.{Variables};
 
 use crate::command_line::CommandLine;
@@ -59,7 +59,7 @@ pub trait Record<T>: CommandLine<T> {
         ensures outcome { Self.answers self.now (given_of args.entry) result }
         ensures named { IfErr result (Self.refuses self.now (given_of args.entry)) }
         ensures dealt { IfOk result (Self.deals self.now (given_of args.entry)) }
-        ensures memory_is_never_caught { IsNotWant result →
+        ensures memory_is_never_caught { IsNotMemoryFailure result →
             Self.answers_spared self.now (given_of args.entry) result }
         ensures fields { Self.agrees self.now →
             IfOk result (Self.tells self.now (given_of args.entry)) }
@@ -80,7 +80,8 @@ pub trait Record<T>: CommandLine<T> {
             (λ r. (ProgramRan (Self.agrees self.now) (Self.answers self.now (given_of args.entry))
             (Self.answers_spared self.now (given_of args.entry))
             (Self.answers_as_program self.now (given_of args.entry))
-            (Self.refuses self.now (given_of args.entry)) (Self.deals self.now (given_of args.entry))
+            (Self.refuses self.now (given_of args.entry))
+            (Self.deals self.now (given_of args.entry))
             (Self.tells self.now (given_of args.entry)) r)
             × (Self.agrees self.now → answers_by_fields self.now (given_of args.entry) r)) result }
     {

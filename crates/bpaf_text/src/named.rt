@@ -1,10 +1,9 @@
 //! Keys by their names, before it is said what they give.
-ghost use Rattle.std.specs.Prelude.{◌≡◌, ◌≤◌, length, Some, None, true, false, IfOk};
-ghost use Rattle.std.specs.Prelude.{[], ◌∷◌};
+ghost use Rattle.bpaf_text.specs.Named.{flag_part, first_text, key_named, nothing_named};
+ghost use Rattle.std.specs.Prelude.{◌≡◌, ◌≤◌, length, Some, None, true, false, IfOk, [], ◌∷◌};
 ghost use Rattle.std.specs.Option.{option_map};
 ghost use Rattle.bpaf_doc.specs.Shape.{name_of, part_of, shown_name};
-ghost use Rattle.bpaf_text.specs.Named.{flag_part, first_text, key_named};
-ghost use Rattle.bpaf_text.specs.Named.{nothing_named, with_short, with_long, with_env, with_help};
+ghost use Rattle.bpaf_text.specs.Named.{with_short, with_long, with_env, with_help};
 
 use crate::few::Few;
 use crate::params::{ParseArgument, ParseFlag, build_argument, build_flag_parser};
@@ -223,8 +222,9 @@ impl NamedArg {
     /// key(alloc, 'v', "verbose").help(Doc::from_text(alloc, "Print more")?).switch()
     /// ```
     ///
-    /// The help page has the line `-v, --verbose  Print more` of it. What it becomes takes a text as
-    /// its help, for which no document has to be made: [`ParseFlag::help`], [`ParseArgument::help`].
+    /// The help page has the line `-v, --verbose  Print more` of it. What it becomes takes a text
+    /// as its help, for which no document has to be made: [`ParseFlag::help`],
+    /// [`ParseArgument::help`].
     pub fn help(mut self, help: Doc) -> NamedArg
         ensures { result ≡ with_help self help }
     {

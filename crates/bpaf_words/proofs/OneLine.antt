@@ -81,7 +81,7 @@ IsSaid known words (inr word) = HasNoLine known words word.0 word.1
 no_items : (known : Known) → SpellAll known [] []
 no_items known = record { parts = []; spelled = tt; joined = refl }
 
--- nor do they have a marker
+-- no words have no marker
 none_marked : HasNoMarker []
 none_marked = λ i d within. absurd (omega arith)
 
@@ -96,7 +96,7 @@ module _ (known : Known) (word : List ℕ) (words : List (List ℕ)) (other : wo
       joined = ap (λ items. xs ++ items) all.joined;
     }
 
-    -- so it is with a line
+    -- a line of words, with one word more in front of them
     line_more : (line : List Arg) (marker : Option ℕ) → IsLine known words line marker
         → IsLine known (word ∷ words) (xs ++ line) (option_map (λ n. length xs + n) marker)
     line_more line marker (without_marker items none all) =
@@ -110,7 +110,7 @@ module _ (known : Known) (word : List ℕ) (words : List (List ℕ)) (other : wo
         (with_marker (word ∷ before) after (xs ++ items) (ap (λ ws. word ∷ ws) cut)
         (All-cons (λ w. w ≢ codes "--") word before other none) (spell_more before items all))
 
-    -- and with what is said
+    -- what is said of words, with one word more in front of them
     said_more : (v : Verdict) → IsSaid known words v → IsSaid known (word ∷ words) (in_front xs v)
     said_more (inl line) said = line_more line.0 line.1 said
     said_more (inr at) said = record {

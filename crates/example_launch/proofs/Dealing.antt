@@ -54,7 +54,7 @@ launch_passes own v value =
     ∙ (flag_leaves run.dry_run_names (others (flag_roles run.verbose_names) cut)
     ∙ (flag_leaves run.verbose_names cut ∙ line_behind value.on_line value.read.cut)))))
 
--- so the words ask for the launch that is dealt out of them
+-- the words ask for the launch that is dealt out of them
 pub launch_asked : (own : List (List ℕ)) (r : Result Launch ParseFailure)
     → IfOk r (run.IsDealtLaunch own) → run.AnswersLaunch own r → IfOk r (run.IsLaunchOf own)
 launch_asked own (Ok v) dealt exact =

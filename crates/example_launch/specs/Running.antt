@@ -35,7 +35,8 @@ fields =
     both (known_switch verbose_names (help_of (codes "Print more")))
     (both (known_switch dry_run_names (help_of (codes "Start nothing")))
     (both (word MeansText NonStrict (codes "NAME") (help_of (codes "Program to start")))
-    (alone (known_many (word MeansText Strict (codes "WORD") (help_of (codes "Words to pass on")))))))
+    (alone (known_many (word MeansText Strict (codes "WORD")
+    (help_of (codes "Words to pass on")))))))
 
 -- the program: a launch that is made of them
 abbrev pub launcher : Grammar Launch

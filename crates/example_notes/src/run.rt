@@ -17,7 +17,8 @@ use std::alloc::Global;
 /// sinks that tell their failures, less is written only where a write failed, and nothing behind
 /// that.
 pub fn run<S: Sink, E: Sink>(alloc: Global, words: &[String], out: &mut S, err: &mut E) -> u8
-    ensures answers { RunsTo (Answers (map string_bytes words.now)) (wrote S.known out.old out.new) (wrote E.known err.old err.new) result }
+    ensures answers { RunsTo (Answers (map string_bytes words.now)) (wrote S.known out.old out.new)
+        (wrote E.known err.old err.new) result }
     ensures exact { PrintsTextOf (IsNotesOf (map string_bytes words.now)) lines
         (wrote S.known out.old out.new) (wrote E.known err.old err.new) result }
 {

@@ -14,7 +14,7 @@ first_differs : (mark c : ℕ) (rest : List ℕ) → Lacks mark (c ∷ rest) →
 first_differs mark c rest lacks =
     let differs : c ≢ mark = lacks 0 (omega arith) in grind (arith, nat_tests)
 
--- nor is one of the others
+-- the characters behind the first aren't this one
 rest_lacks : (mark c : ℕ) (rest : List ℕ) → Lacks mark (c ∷ rest) → Lacks mark rest
 rest_lacks mark c rest lacks = λ i within. lacks (suc i) (omega arith)
 
@@ -25,7 +25,8 @@ ends_around (c ∷ from) to lacks =
     let rest = ends (from ++ 45 ∷ to) in
     ap (λ x. if x then ([], from ++ 45 ∷ to) else (c ∷ rest.0, rest.1))
     (first_differs 45 c from lacks)
-    ∙ ap (λ (p : List ℕ × List ℕ). (c ∷ p.0, p.1)) (ends_around from to (rest_lacks 45 c from lacks))
+    ∙ ap (λ (p : List ℕ × List ℕ). (c ∷ p.0, p.1))
+    (ends_around from to (rest_lacks 45 c from lacks))
 
 -- one without a dash isn't
 pub ends_without : (text : List ℕ) → Lacks 45 text → ends text ≡ (text, [])
@@ -36,7 +37,8 @@ ends_without (c ∷ text) lacks =
     ∙ ap (λ (p : List ℕ × List ℕ). (c ∷ p.0, p.1)) (ends_without text (rest_lacks 45 c text lacks))
 
 -- the first part of a text, and the others
-pub parts_around : (part more : List ℕ) → Lacks 44 part → parts (part ++ 44 ∷ more) ≡ part ∷ parts more
+pub parts_around : (part more : List ℕ) → Lacks 44 part → parts (part ++ 44 ∷ more)
+    ≡ part ∷ parts more
 parts_around [] more lacks = refl
 parts_around (c ∷ part) more lacks =
     ap (λ x. if x then [] ∷ parts (part ++ 44 ∷ more) else in_front c (parts (part ++ 44 ∷ more)))

@@ -101,7 +101,8 @@ fn attempt<T: Drop, P: Parser<T>>(
     requires can { P.can_eval parser.now }
     requires ordered { place ≤ end }
     requires inside { end ≤ length state.old.context.line }
-    ensures { EndsAttempt T (outcome_of (P.grammar parser.now)) state.old place end result state.new }
+    ensures { EndsAttempt T (outcome_of (P.grammar parser.now)) state.old place end result
+        state.new }
 {
     let mark = state.mark();
     let scope = state.scope();

@@ -1,10 +1,9 @@
 //! A group is looked for at each present place of the scope, from left to right.
-ghost use Rattle.bpaf_grammar.specs.Grammar.{outcome_of};
 ghost use Rattle.std.specs.Prelude.{◌≡◌, ◌+◌, ◌≤◌, None, Some, Ok, Err, length, IfSome};
+ghost use Rattle.bpaf_grammar.specs.Grammar.{outcome_of};
 ghost use Rattle.std.specs.Prelude.{MatchOption};
 ghost use Rattle.bpaf_doc.specs.Shape.{part_of};
-ghost use Rattle.bpaf_laws.specs.Adjacent.{GroupOutcome, HasNoStart, IsGroupStart};
-ghost use Rattle.bpaf_laws.specs.Adjacent.{place_count};
+ghost use Rattle.bpaf_laws.specs.Adjacent.{GroupOutcome, HasNoStart, IsGroupStart, place_count};
 ghost use Rattle.bpaf.specs.Remembering.{TriesAt, IsRemembered, failure_of};
 
 use super::attempts::{attempts, first_present, takes_item};

@@ -1,6 +1,5 @@
 //! An item of any kind, as far as a check takes it.
-ghost use Rattle.bpaf_grammar.specs.Leaves.{any_item};
-ghost use Rattle.bpaf_grammar.specs.Grammar.{own};
+ghost use Rattle.bpaf_grammar.specs.{Leaves.any_item, Grammar.own};
 ghost use Rattle.std.specs.Prelude.{◌≡◌, ◌∷◌, [], IfOk, Some, None, true, false};
 ghost use Rattle.bpaf_doc.specs.Print.{text_pieces, shown_as};
 ghost use Rattle.bpaf_laws.specs.Leaves.{ChecksText};

@@ -1,6 +1,5 @@
 //! The name under which a program runs.
-ghost use Rattle.bpaf_grammar.specs.Leaves.{program_name};
-ghost use Rattle.bpaf_grammar.specs.Grammar.{own};
+ghost use Rattle.bpaf_grammar.specs.{Leaves.program_name, Grammar.own};
 ghost use Rattle.bpaf_doc.specs.Shape.{Skip};
 
 use bpaf_core::Parser;

@@ -1,8 +1,7 @@
 //! A word of the line, by its place and not by a name.
-ghost use Rattle.bpaf_grammar.specs.Grammar.{word};
+ghost use Rattle.bpaf_grammar.specs.{Positional.accepts, Positional.misplaced, Grammar.word};
 ghost use Rattle.std.specs.Prelude.{◌≡◌, IfOk, Some, None, List};
-ghost use Rattle.bpaf_doc.specs.{declared.doc.Piece.Piece};
-ghost use Rattle.bpaf_grammar.specs.Positional.{accepts, misplaced};
+ghost use Rattle.bpaf_doc.specs.declared.doc.Piece.{Piece};
 
 use bpaf_core::{Parser, value_or_refusal};
 use bpaf_doc::{Help, Item, Meta, Metavar, Text};

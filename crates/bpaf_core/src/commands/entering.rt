@@ -1,21 +1,18 @@
 //! What a command answers: its word is taken, and what runs inside it ends before or at the end of
 //! its scope.
-ghost use Rattle.bpaf_grammar.specs.Grammar.{command};
-ghost use Rattle.bpaf_grammar.specs.Grammar.{outcome_of, describes_of};
-ghost use Rattle.std.specs.{Prelude.◌≡◌, Prelude.◌<◌, Prelude.IfOk};
+ghost use Rattle.bpaf_grammar.specs.Grammar.{command, outcome_of, describes_of};
+ghost use Rattle.bpaf_grammar.specs.Command.{Enters, RunsInside, IsMissingPart};
+ghost use Rattle.bpaf_grammar.specs.Ending.{EndsRun};
+ghost use Rattle.std.specs.Prelude.{◌≡◌, ◌<◌, IfOk};
 ghost use Rattle.bpaf_doc.specs.Shape.{part_of};
-ghost use Rattle.bpaf_laws.specs.{Command.CommandPart};
+ghost use Rattle.bpaf_laws.specs.Command.{CommandPart};
 ghost use Rattle.bpaf_core.specs.Help.{shown_help};
-ghost use Rattle.bpaf_grammar.specs.Command.{Enters, RunsInside};
-ghost use Rattle.bpaf_grammar.specs.Command.{IsMissingPart};
-ghost use Rattle.bpaf_grammar.specs.{Ending.EndsRun};
 
 use crate::commands::ParseCommand;
 use crate::parser::Parser;
 use crate::run::Run;
 use bpaf_doc::{Doc, Item, Meta, Text};
 use bpaf_line::{Error, ParseFailure, State};
-use bpaf_parts::end_message;
 use std::alloc::{AllocError, Global};
 use std::marker::PhantomData;
 
@@ -115,7 +112,7 @@ impl<T: Drop, P: Parser<T>> Parser<T> for ParseCommand<T, P> {
         self.enter(state)?;
         match self.run_inside(state) {
             Ok(value) => Ok(value),
-            Err(failure) => Err(Error(end_message(failure))),
+            Err(failure) => Err(Error(failure.into_message())),
         }
     }
 

@@ -1,7 +1,7 @@
 //! A run over words: their line is read, and the parser runs over it.
 ghost use Rattle.std.specs.{Prelude.IfOk, Result.IfErr};
 ghost use Rattle.bpaf_words.specs.{Arguments.given_of, Arguments.words_in, Splitting.ReadsLine};
-ghost use Rattle.bpaf_grammar.specs.{Run.IsNotWant, Run.Starts};
+ghost use Rattle.bpaf_grammar.specs.{Run.IsNotMemoryFailure, Run.Starts};
 ghost use Rattle.bpaf_grammar.specs.Words.{Answers, AnswersSpared, Deals, Refuses, names_of};
 
 use crate::options::OptionParser;
@@ -43,7 +43,7 @@ impl<T: Drop, P: Parser<T>> OptionParser<T, P> {
             (given_of args.entry)) }
         ensures dealt { IfOk result (Deals (P.grammar self.now.inner) self.now.info
             (given_of args.entry)) }
-        ensures memory_is_never_caught { IsNotWant result →
+        ensures memory_is_never_caught { IsNotMemoryFailure result →
             AnswersSpared (P.grammar self.now.inner) self.now.info (given_of args.entry) result }
     {
         match self.construct(args) {
@@ -99,9 +99,10 @@ impl<T: Drop, P: Parser<T> + Drop> OptionParser<T, P> {
     pub fn run_once(self, args: Args<'_>) -> Result<T, ParseFailure>
         requires { P.can_eval self.inner }
         ensures outcome { Answers (P.grammar self.inner) self.info (given_of args.entry) result }
-        ensures named { IfErr result (Refuses (P.grammar self.inner) self.info (given_of args.entry)) }
+        ensures named { IfErr result (Refuses (P.grammar self.inner) self.info
+            (given_of args.entry)) }
         ensures dealt { IfOk result (Deals (P.grammar self.inner) self.info (given_of args.entry)) }
-        ensures memory_is_never_caught { IsNotWant result →
+        ensures memory_is_never_caught { IsNotMemoryFailure result →
             AnswersSpared (P.grammar self.inner) self.info (given_of args.entry) result }
     {
         self.run_inner(args)

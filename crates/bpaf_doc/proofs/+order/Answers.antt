@@ -1,7 +1,8 @@
 use Rattle.std.proofs.Common.{◌≡◌, ◌||◌, Bool, arith, false, refl, true}
 use Rattle.bpaf_doc.proofs.Folding.{members_from}
 use Rattle.bpaf_doc.proofs.+order.Goals as goal
-use Rattle.bpaf_doc.proofs.+order.Goals.{order::each_in_order-then-seen_in_any, order::each_in_order-else-seen_in_any}
+use Rattle.bpaf_doc.proofs.+order.Goals.{order::each_in_order-then-seen_in_any}
+use Rattle.bpaf_doc.proofs.+order.Goals.{order::each_in_order-else-seen_in_any}
 
 pub order::all_in_order-loop-member-preserved : goal.order::all_in_order-loop-member-preserved
 order::all_in_order-loop-member-preserved t c =

@@ -4,7 +4,7 @@ use Rattle.bpaf_laws.specs.Choice.{Nested}
 use Rattle.bpaf_laws.proofs.Keeping.{keeps_of}
 use Rattle.bpaf_grammar.specs.{Grammar.choice, Grammar.outcome_of, Laws.lawful_of}
 use Rattle.bpaf_grammar.proofs.Choices.{answer_more}
-use Rattle.bpaf_core.proofs.Branching.{answered_choice, start_kept}
+use Rattle.bpaf_choice.proofs.Branching.{answered_choice, start_kept}
 use Rattle.bpaf.proofs.choices.choose_from.Goals as goal
 
 pub or_parser-answer-requires-clause-start : goal.or_parser-answer-requires-clause-start

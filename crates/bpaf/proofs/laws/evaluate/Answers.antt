@@ -1,11 +1,10 @@
+use Rattle.bpaf_grammar.proofs.Promises.{command_leaves_nothing, command_names_its_own}
+use Rattle.bpaf_grammar.proofs.Promises.{defaults_take_nothing, key_is_first, leftmost_is_answered}
 use Rattle.std.proofs.Common.{Err, IfOk, Ok, Result}
 use Rattle.std.specs.Result.{IfErr}
 use Rattle.bpaf_line.specs.{declared.error.Error.Error, Situation.Situation}
-use Rattle.bpaf_laws.specs.Laws.{Keeps, Lawful, Reads}
-use Rattle.bpaf_laws.specs.Reading.{Outcome, Readings}
+use Rattle.bpaf_laws.specs.{Laws.Keeps, Laws.Lawful, Laws.Reads, Reading.Outcome, Reading.Readings}
 use Rattle.bpaf_grammar.specs.Laws.{lawful_of}
-use Rattle.bpaf_grammar.proofs.Promises.{command_leaves_nothing, command_names_its_own}
-use Rattle.bpaf_grammar.proofs.Promises.{defaults_take_nothing, key_is_first, leftmost_is_answered}
 use Rattle.bpaf_grammar.proofs.Promises.{memory_is_never_caught, repeat_is_bounded, takes_stretch}
 use Rattle.bpaf.proofs.laws.evaluate.Goals as goal
 

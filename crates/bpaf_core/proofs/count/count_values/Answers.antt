@@ -17,7 +17,8 @@ overflow_add-count g c =
     let step = rw (c.in-Some.is, none_nil _ _ _ c.is_none.ensures run.0.3)
     at c.in_ok-value.ensures in
     let fits : (length run.0.0 ≡ 0) ⊎ (length run.0.0 + 1 ≤ open_count c.args.state.now) =
-    fits_more (lawful_of (g.P.Parser.grammar c.args.parser.now)) c.args.state.now c.loop-last.state run.0.0
+    fits_more (lawful_of (g.P.Parser.grammar c.args.parser.now)) c.args.state.now c.loop-last.state
+    run.0.0
     c.in-Some.value _ run.0.1 step in
     ⊎_elim (λ none. omega arith) (λ room. omega arith) fits
 
@@ -27,7 +28,8 @@ returns-then-len-left-clause-ok g c =
     let step = rw (c.in-Some.is, none_nil _ _ _ c.is_none.ensures run.0.3)
     at c.in_ok-value.ensures in (
       run.0.0 ++ c.in-Some.value ∷ [],
-      rests_here (lawful_of (g.P.Parser.grammar c.args.parser.now)) c.args.state.now c.loop-last.state
+      rests_here (lawful_of (g.P.Parser.grammar c.args.parser.now)) c.args.state.now
+          c.loop-last.state
           run.0.0 c.in-Some.value _ run.0.1 step (cc),
       counted_more _ _ _ run.0.2,
       (run.0.0, refl),
@@ -38,7 +40,8 @@ loop-last-smaller g c =
     let run = c.loop-last.invariant in
     let step = rw (c.in-Some.is, none_nil _ _ _ c.is_none.ensures run.0.3)
     at c.in_ok-value.ensures in
-    (goes_on (lawful_of (g.P.Parser.grammar c.args.parser.now)) c.args.state.now c.loop-last.state run.0.0
+    (goes_on (lawful_of (g.P.Parser.grammar c.args.parser.now)) c.args.state.now c.loop-last.state
+    run.0.0
     c.in-Some.value _ run.0.1 step (λ same. c.if-len-left.false (cc))).1
 
 pub loop-last-preserved : goal.loop-last-preserved
@@ -46,7 +49,8 @@ loop-last-preserved g c =
     let run = c.loop-last.invariant in
     let step = rw (c.in-Some.is, none_nil _ _ _ c.is_none.ensures run.0.3)
     at c.in_ok-value.ensures in
-    let on = goes_on (lawful_of (g.P.Parser.grammar c.args.parser.now)) c.args.state.now c.loop-last.state
+    let on = goes_on (lawful_of (g.P.Parser.grammar c.args.parser.now)) c.args.state.now
+    c.loop-last.state
     run.0.0 c.in-Some.value _ run.0.1 step (λ same. c.if-len-left.false (cc)) in (
       (run.0.0 ++ c.in-Some.value ∷ [], on.0, counted_more _ _ _ run.0.2, (run.0.0, refl)),
       c.len-left.ensures,

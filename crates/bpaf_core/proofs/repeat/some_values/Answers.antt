@@ -1,5 +1,4 @@
-use Rattle.std.proofs.Common.{arith}
-use Rattle.std.proofs.lemmas.Grind.{common_steps}
+use Rattle.std.proofs.{lemmas.Grind.common_steps, Common.arith}
 use Rattle.bpaf_core.proofs.repeat.some_values.Goals as goal
 
 pub returns-then-is_empty : goal.returns-then-is_empty

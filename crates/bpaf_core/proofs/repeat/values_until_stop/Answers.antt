@@ -1,5 +1,4 @@
-use Rattle.bpaf_grammar.specs.Grammar.{outcome_of}
-use Rattle.bpaf_grammar.specs.Laws.{lawful_of}
+use Rattle.bpaf_grammar.specs.{Grammar.outcome_of, Laws.lawful_of}
 use Rattle.std.proofs.Common.{arith, sym, subst, true, ◌∙◌}
 use Rattle.bpaf_laws.specs.Combinators.{Turns}
 use Rattle.bpaf_laws.proofs.CombinatorLaws.{vec_nil, steps_refused, not_nil, step_falls, steps_more}
@@ -12,7 +11,8 @@ loop-values-preserved g c =
     let more = steps_more (outcome_of (g.P.Parser.grammar c.args.parser.now)) c.args.catches true
     c.args.state.now c.loop-values.state c.loop-values.values.items c.in-Some.value
     c.parse_option.new.state c.loop-values.invariant step in
-    subst (λ vs. Turns (outcome_of (g.P.Parser.grammar c.args.parser.now)) c.args.catches true c.args.state.now
+    subst (λ vs. Turns (outcome_of (g.P.Parser.grammar c.args.parser.now)) c.args.catches true
+    c.args.state.now
     vs c.parse_option.new.state) (sym c.in_ok-push_value.ensures) more
 
 pub returns-in_err-push_value : goal.returns-in_err-push_value

@@ -1,5 +1,4 @@
-use Rattle.std.proofs.Common.{arith}
-use Rattle.std.proofs.lemmas.Grind.{common_steps}
+use Rattle.std.proofs.{lemmas.Grind.common_steps, Common.arith}
 use Rattle.bpaf_keys.proofs.names.take_short.Goals as goal
 
 pub loop-short-preserved : goal.loop-short-preserved

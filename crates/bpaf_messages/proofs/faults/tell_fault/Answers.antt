@@ -1,6 +1,6 @@
 use Rattle.std.proofs.Common.{refl, subst, inr, None}
 use Rattle.bpaf_words.specs.Arguments.{env_of, given_name}
-use Rattle.bpaf_line.specs.Rendering.{Renders}
+use Rattle.bpaf_messages.specs.Rendering.{Renders}
 use Rattle.bpaf_messages.proofs.faults.tell_fault.Goals as goal
 
 pub returns-in-Ok : goal.returns-in-Ok

@@ -1,5 +1,5 @@
 use Rattle.std.proofs.Common.{arith}
-use Rattle.bpaf_line.proofs.BitSets.{count_below-none}
+use Rattle.bpaf_base.proofs.Count.{count_below-none}
 use Rattle.bpaf_messages.proofs.leftovers.leftover.Goals as goal
 
 pub returns-in-None : goal.returns-in-None

@@ -1,5 +1,6 @@
 use Rattle.std.proofs.Common.{◌≡◌, drop, map}
-use Rattle.bpaf_line.specs.{Missing.missed_of, Rendering.furthest}
+use Rattle.bpaf_line.specs.{Missing.missed_of}
+use Rattle.bpaf_messages.specs.Rendering.{furthest}
 use Rattle.bpaf_messages.proofs.missing.furthest.Given as goal
 
 abbrev pub invariant-loop-item : goal.invariant-loop-item

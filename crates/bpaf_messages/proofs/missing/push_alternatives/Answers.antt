@@ -1,5 +1,4 @@
-use Rattle.std.proofs.Common.{arith}
-use Rattle.std.proofs.lemmas.Grind.{common_steps}
+use Rattle.std.proofs.{lemmas.Grind.common_steps, Common.arith}
 use Rattle.bpaf_messages.proofs.Followed.{two_told}
 use Rattle.bpaf_messages.proofs.missing.push_alternatives.Goals as goal
 

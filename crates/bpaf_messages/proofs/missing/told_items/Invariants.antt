@@ -1,7 +1,7 @@
 use Rattle.std.proofs.Common.{◌≡◌, ◌++◌, drop, filter, map, true}
 use Rattle.bpaf_doc.specs.{Shape.part_text, Print.printed}
 use Rattle.bpaf_line.specs.Missing.{missed_of}
-use Rattle.bpaf_line.specs.Rendering.{in_one_scope, one_command, told_parts}
+use Rattle.bpaf_messages.specs.Rendering.{in_one_scope, one_command, told_parts}
 use Rattle.bpaf_messages.proofs.missing.told_items.Given as goal
 
 abbrev pub invariant-loop-missed : goal.invariant-loop-missed

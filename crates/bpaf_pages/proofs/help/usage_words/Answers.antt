@@ -1,5 +1,4 @@
-use Rattle.std.proofs.Common.{arith}
-use Rattle.std.proofs.lemmas.Grind.{common_steps}
+use Rattle.std.proofs.{lemmas.Grind.common_steps, Common.arith}
 use Rattle.bpaf_pages.proofs.help.usage_words.Goals as goal
 
 pub loop-entry-preserved : goal.loop-entry-preserved

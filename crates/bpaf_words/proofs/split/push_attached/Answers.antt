@@ -1,5 +1,4 @@
-use Rattle.std.proofs.Common.{arith}
-use Rattle.std.proofs.lemmas.Grind.{common_steps}
+use Rattle.std.proofs.{lemmas.Grind.common_steps, Common.arith}
 use Rattle.bpaf_words.proofs.split.push_attached.Goals as goal
 
 pub returns : goal.returns

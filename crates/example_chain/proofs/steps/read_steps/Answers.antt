@@ -12,7 +12,8 @@ returns c =
     let repeat : steps.that.inner ≡ c.in_ok-repeat.repeat = search rules in
     let known = of.many_known (of.choice_known _ _ (of.choice_known _ _
     (of.map_known _ chain.go_parser (rw (← go) at c.in_ok-go.ensures) (λ x step e. search rules))
-    (of.map_known _ chain.turn_parser (rw (← turn) at c.in_ok-turn.ensures) (λ x step e. search rules)))
+    (of.map_known _ chain.turn_parser (rw (← turn) at c.in_ok-turn.ensures)
+    (λ x step e. search rules)))
     (of.map_known _ chain.repeat_parser (rw (← repeat) at c.in_ok-repeat.ensures)
     (λ n step e. search rules))) (search rules) in
     let info : options.info ≡ of.plain_info = search rules in

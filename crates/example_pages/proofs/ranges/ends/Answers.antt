@@ -5,7 +5,8 @@ use Rattle.example_pages.proofs.Reading.{ends_around, ends_without}
 use Rattle.example_pages.proofs.ranges.ends.Goals as goal
 
 pub returns-in-None : goal.returns-in-None
-returns-in-None c = sym (ends_without _ (split_parts 45 _ None c.in-None.ensures.cases (omega arith)))
+returns-in-None c = sym (ends_without _
+    (split_parts 45 _ None c.in-None.ensures.cases (omega arith)))
 
 pub returns-in-Some : goal.returns-in-Some
 returns-in-Some c =

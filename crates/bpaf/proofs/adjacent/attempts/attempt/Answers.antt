@@ -19,7 +19,8 @@ set_scope-requires-in-None-clause-inside g c =
 pub undo-requires : goal.undo-requires
 undo-requires g c =
     let mark = c.mark-mark.result in
-    let kept = keeps_of (lawful_of (g.P.Parser.grammar c.args.parser.now)) c.set_scope.new.self c.eval.result
+    let kept = keeps_of (lawful_of (g.P.Parser.grammar c.args.parser.now)) c.set_scope.new.self
+    c.eval.result
     c.eval.new.state c.eval.ensures in
     c.set_scope-2.ensures.marks.fit mark
     (kept.marks.fit mark (c.set_scope.ensures.marks.fit mark c.mark-mark.ensures.fits))
@@ -40,7 +41,8 @@ returns-in-Some g c =
     let t = c.eval.new.state in
     let mark = c.mark-mark.result in
     let moved = c.set_scope.ensures.marks in
-    let kept = keeps_of (lawful_of (g.P.Parser.grammar c.args.parser.now)) c.set_scope.new.self c.eval.result
+    let kept = keeps_of (lawful_of (g.P.Parser.grammar c.args.parser.now)) c.set_scope.new.self
+    c.eval.result
     t c.eval.ensures in
     let fits = moved.fit mark c.mark-mark.ensures.fits in (
       c.in_ok-value.value,

@@ -7,7 +7,8 @@ use Rattle.bpaf.proofs.adjacent.attempts.attempts.Given as goal
 abbrev pub invariant-loop-value : goal.invariant-loop-value
 invariant-loop-value g l = record {
   same : l.state ≡ l.fn.state;
-  narrowed : Narrowed g.row.T.Denot (outcome_of (g.P.Parser.grammar l.parser)) l.fn.state l.place l.end;
+  narrowed : Narrowed g.row.T.Denot (outcome_of (g.P.Parser.grammar l.parser)) l.fn.state l.place
+      l.end;
   inside : l.end ≤ length l.fn.state.context.line;
 }
 

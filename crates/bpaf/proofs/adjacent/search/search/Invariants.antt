@@ -11,7 +11,8 @@ invariant-loop-places g l = record {
   same : l.state ≡ l.fn.state;
   begun : l.fn.state.start ≤ l.from;
   sound : IsRemembered l.fn.state l.best;
-  vain : InVain g.row.T.Denot (outcome_of (g.P.Parser.grammar l.parser)) l.fn.state (part_of l.first) l.from
+  vain : InVain g.row.T.Denot (outcome_of (g.P.Parser.grammar l.parser)) l.fn.state
+      (part_of l.first) l.from
       l.best;
 }
 

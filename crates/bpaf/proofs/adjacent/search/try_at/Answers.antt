@@ -7,7 +7,8 @@ use Rattle.bpaf.proofs.adjacent.search.try_at.Goals as goal
 
 pub returns-in_err-takes_item-clause-tried : goal.returns-in_err-takes_item-clause-tried
 returns-in_err-takes_item-clause-tried g c =
-    wanted_at _ c.takes_item.ensures.same c.in_err-takes_item.ensures.takes c.from_residual.ensures refl
+    wanted_at _ c.takes_item.ensures.same c.in_err-takes_item.ensures.takes c.from_residual.ensures
+    refl
 
 pub returns-then-not-branch-clause-tried : goal.returns-then-not-branch-clause-tried
 returns-then-not-branch-clause-tried g c = rw c.takes_item.ensures.same
@@ -20,7 +21,8 @@ returns-in-Ok-clause-tried g c =
 
 pub keep-kept-requires : goal.keep-kept-requires
 keep-kept-requires g c =
-    let back = attempts_gone (lawful_of (g.P.Parser.grammar c.args.parser.now)) c.takes_item.ensures.same
+    let back = attempts_gone (lawful_of (g.P.Parser.grammar c.args.parser.now))
+    c.takes_item.ensures.same
     c.mark-mark.ensures.fits c.mark-mark.ensures.back c.attempts.ensures in
     let same = c.takes_item.ensures.same ∙ sym back.back in
     record {
@@ -33,13 +35,15 @@ keep-kept-requires g c =
 
 pub undo-requires : goal.undo-requires
 undo-requires g c =
-    let back = attempts_gone (lawful_of (g.P.Parser.grammar c.args.parser.now)) c.takes_item.ensures.same
+    let back = attempts_gone (lawful_of (g.P.Parser.grammar c.args.parser.now))
+    c.takes_item.ensures.same
     c.mark-mark.ensures.fits c.mark-mark.ensures.back c.attempts.ensures in
     rw c.keep-kept.ensures.same back.fits
 
 pub returns-in_err-kept-in-Err-clause-tried : goal.returns-in_err-kept-in-Err-clause-tried
 returns-in_err-kept-in-Err-clause-tried g c =
-    let back = attempts_gone (lawful_of (g.P.Parser.grammar c.args.parser.now)) c.takes_item.ensures.same
+    let back = attempts_gone (lawful_of (g.P.Parser.grammar c.args.parser.now))
+    c.takes_item.ensures.same
     c.mark-mark.ensures.fits c.mark-mark.ensures.back c.attempts.ensures in
     wanted_at _ (back_at back c.keep-kept.ensures.same c.undo.ensures.undone)
     c.in_err-kept-in-Err.ensures.told c.from_residual-in_err-kept-in-Err.ensures
@@ -47,7 +51,8 @@ returns-in_err-kept-in-Err-clause-tried g c =
 
 pub returns-in_ok-kept-in-Err : goal.returns-in_ok-kept-in-Err
 returns-in_ok-kept-in-Err g c =
-    let back = attempts_gone (lawful_of (g.P.Parser.grammar c.args.parser.now)) c.takes_item.ensures.same
+    let back = attempts_gone (lawful_of (g.P.Parser.grammar c.args.parser.now))
+    c.takes_item.ensures.same
     c.mark-mark.ensures.fits c.mark-mark.ensures.back c.attempts.ensures in
     let kept = rw back.back at c.in_ok-kept-in-Err.ensures.ok in
     record {

@@ -8,5 +8,6 @@ loop-place-preserved g c =
     let here = rw (text, c.in_default.is) at c.in_ok-value.ensures in (
       tt,
       tt,
-      passed_more _ _ _ c.in-Some.ensures.steps c.loop-place.invariant.2 here c.if-not-anywhere.false,
+      passed_more _ _ _ c.in-Some.ensures.steps c.loop-place.invariant.2 here
+          c.if-not-anywhere.false,
     )

@@ -1,5 +1,5 @@
 use Rattle.bpaf_laws.proofs.Keeping.{keeps_of}
-use Rattle.bpaf_parts.proofs.Branching.{answered_choice, start_kept}
+use Rattle.bpaf_choice.proofs.Branching.{answered_choice, start_kept}
 use Rattle.bpaf_grammar.specs.{Grammar.outcome_of, Laws.lawful_of}
 use Rattle.bpaf_core.proofs.choice.ParseOrElseParser.eval.Goals as goal
 

@@ -6,4 +6,5 @@ pub of_line-requires : goal.of_line-requires
 of_line-requires g c = marker_of_line _ _ _ _ c.in_ok-line.ensures
 
 pub returns : goal.returns
-returns g c = starts_at c.in_ok-line.line c.words.ensures c.in_ok-line.ensures c.in_ok-of_line.ensures
+returns g c = starts_at c.in_ok-line.line c.words.ensures c.in_ok-line.ensures
+    c.in_ok-of_line.ensures

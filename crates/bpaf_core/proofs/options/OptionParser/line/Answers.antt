@@ -1,5 +1,4 @@
-use Rattle.bpaf_grammar.specs.Grammar.{describes_of}
-use Rattle.bpaf_grammar.specs.Laws.{shows_of}
+use Rattle.bpaf_grammar.specs.{Grammar.describes_of, Laws.shows_of}
 use Rattle.std.proofs.Common.{◌∙◌, [], ap, subst, rules}
 use Rattle.bpaf_doc.specs.Shape.{shape_of}
 use Rattle.bpaf_core.proofs.Running.{read_by_shown}
@@ -13,6 +12,7 @@ returns g c =
     let same = c.self.view_is in
     read_by_shown (shows_of (g.P.Parser.grammar c.args.self.now.inner)) c.args.self.now.info _ _
     (c.in_ok-front.ensures.setting ∙ ap (λ options. options.info.numbers) same)
-    (subst (λ options. describes_of (g.P.Parser.grammar options.inner) (shape_of c.in_ok-meta.meta)) same
+    (subst (λ options. describes_of (g.P.Parser.grammar options.inner) (shape_of c.in_ok-meta.meta))
+    same
     c.in_ok-meta.ensures) (search rules) (search rules)
     (rw (c.deref.ensures.value, c.deref-2.ensures.value) at c.line_by.ensures.answer)

@@ -1,5 +1,4 @@
-use Rattle.std.proofs.Common.{arith}
-use Rattle.std.proofs.lemmas.Grind.{common_steps}
+use Rattle.std.proofs.{lemmas.Grind.common_steps, Common.arith}
 use Rattle.bpaf_doc.proofs.doc.Doc.is_empty.Goals as goal
 
 pub loop-piece-preserved : goal.loop-piece-preserved

@@ -1,5 +1,4 @@
-use Rattle.std.proofs.Common.{arith}
-use Rattle.std.proofs.lemmas.Grind.{common_steps}
+use Rattle.std.proofs.{lemmas.Grind.common_steps, Common.arith}
 use Rattle.bpaf_doc.proofs.doc.Doc.term.Goals as goal
 
 pub returns-clause-printed : goal.returns-clause-printed

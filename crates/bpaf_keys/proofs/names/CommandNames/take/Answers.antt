@@ -1,5 +1,4 @@
-use Rattle.std.proofs.Common.{arith}
-use Rattle.std.proofs.lemmas.Grind.{common_steps}
+use Rattle.std.proofs.{lemmas.Grind.common_steps, Common.arith}
 use Rattle.bpaf_keys.proofs.names.CommandNames.take.Goals as goal
 
 pub returns-then-is_some-2 : goal.returns-then-is_some-2

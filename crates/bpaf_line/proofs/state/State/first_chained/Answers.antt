@@ -12,7 +12,8 @@ loop-short-preserved c =
     let name = c.short-item.result in
     rw (take_more names i name c.loop-short-test.true
     ∙ ap (λ n. take i names ++ n ∷ []) (sym c.short-item.is))
-    (among_more (is_sought c.args.key.now) _ (Short name false []) c.args.self.now c.args.chains.now _
+    (among_more (is_sought c.args.key.now) _ (Short name false []) c.args.self.now c.args.chains.now
+    _
     c.args.end _ _ c.requires.chains c.requires.inside c.first_short.ensures c.loop-short.invariant
     c.first_along-place.ensures)
 

@@ -24,5 +24,6 @@ returns c =
     c.min-end-2.result q c.in-Some.ensures.keyless (c.min-end-2.ensures
     ∙ (ap (λ t. min t.end c.len.result) c.self.view_is
     ∙ ap (min c.args.self.now.end) c.len.ensures)) past)
-    (none_among names c.args.adjacent c.args.self.now c.min-end-2.result c.first_chained-place.result
+    (none_among names c.args.adjacent c.args.self.now c.min-end-2.result
+    c.first_chained-place.result
     c.first_chained-place.ensures) c.first_chained-place.ensures.matches c.then_some-2.ensures

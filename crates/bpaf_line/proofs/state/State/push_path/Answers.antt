@@ -1,6 +1,5 @@
 use Rattle.std.proofs.Common.{◌∙◌, ◌∷◌, [], ap, map, string_bytes, arith}
-use Rattle.std.proofs.lemmas.Grind.{common_steps}
-use Rattle.std.proofs.{lemmas.List.map-append}
+use Rattle.std.proofs.{lemmas.Grind.common_steps, lemmas.List.map-append}
 use Rattle.bpaf_line.proofs.Sound.{sound_path, path_longer}
 use Rattle.bpaf_line.proofs.state.State.push_path.Goals as goal
 

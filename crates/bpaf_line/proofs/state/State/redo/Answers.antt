@@ -1,9 +1,8 @@
 use Rattle.std.proofs.Common.{◌∙◌, ◌++◌, ap, sym, subst, map, string_bytes, arith}
-use Rattle.std.proofs.lemmas.Grind.{common_steps}
-use Rattle.std.proofs.{lemmas.List.map-append}
+use Rattle.std.proofs.{lemmas.Grind.common_steps, lemmas.List.map-append}
 use Rattle.bpaf_line.specs.Situation.{with_current, with_scope, PresentInTurn}
 use Rattle.bpaf_line.specs.{Inside.situation_of, Inside.changes_of, Marks.redone}
-use Rattle.bpaf_line.proofs.{Marks.redone_parts, Sound.sound_path, Sound.path_longer}
+use Rattle.bpaf_line.proofs.{Sound.sound_path, Sound.path_longer, Marks.redone_parts}
 use Rattle.bpaf_line.proofs.state.State.redo.Goals as goal
 
 pub invariant_of-self-2 : goal.invariant_of-self-2

@@ -1,8 +1,7 @@
 use Rattle.std.proofs.Common.{◌≡◌, ◌∙◌, ap, sym, subst, refl, drop, map, string_bytes, arith}
-use Rattle.std.proofs.lemmas.Grind.{common_steps}
-use Rattle.std.proofs.lemmas.List.{drop-map}
-use Rattle.bpaf_line.specs.Inside.{places_of, IsSoundAt}
+use Rattle.std.proofs.{lemmas.Grind.common_steps, lemmas.List.drop-map}
 use Rattle.bpaf_line.specs.Marks.{undone, steps_since, redone, CanRedo}
+use Rattle.bpaf_line.specs.Inside.{places_of, IsSoundAt}
 use Rattle.bpaf_line.proofs.Marks.{rest_is, redone_undone, can_redo}
 use Rattle.bpaf_line.proofs.state.State.steps.Goals as goal
 

@@ -1,5 +1,4 @@
-use Rattle.std.proofs.Common.{arith}
-use Rattle.std.proofs.lemmas.Grind.{common_steps}
+use Rattle.std.proofs.{lemmas.Grind.common_steps, Common.arith}
 use Rattle.bpaf_words.proofs.args.Words.at.Goals as goal
 
 pub offset_bounds-words-index : goal.offset_bounds-words-index

@@ -11,4 +11,4 @@ returns-in-Ok g c = inside_answers _ _ _ _ _ c.in_ok-enter.field-0 _ _
 
 pub returns-in-Err : goal.returns-in-Err
 returns-in-Err g c = inside_refuses _ _ _ _ _ c.in_ok-enter.field-0 _ _
-    c.in_ok-enter.ensures c.args.self.now.adjacent _ c.in-Err.ensures c.end_message.ensures
+    c.in_ok-enter.ensures c.args.self.now.adjacent _ c.in-Err.ensures c.into_message.ensures

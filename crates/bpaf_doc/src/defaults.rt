@@ -1,9 +1,9 @@
 //! Defaults as a help page shows them.
 ghost use Rattle.std.specs.{Prelude.IfOk, Prelude.◌≡◌, Fn.FnReturnsAt};
 ghost use Rattle.bpaf_doc.specs.Print.{text_pieces};
-ghost use Rattle.bpaf_laws.specs.Combinators.{IsDefault, IsFormatted, default_text};
+ghost use Rattle.bpaf_doc.specs.Default.{IsDefault, IsFormatted, default_text};
 
-use bpaf_doc::Doc;
+use crate::doc::Doc;
 use std::alloc::{AllocError, Global};
 use std::fmt::{Debug, Display};
 

@@ -1,11 +1,9 @@
-//! Values of taken texts, and their lists.
-ghost use Rattle.std.specs.Prelude.{◌≡◌, ◌++◌, ◌∷◌, [], OnOk};
+//! The value of a taken text.
 ghost use Rattle.bpaf_laws.specs.Reading.{ReadsValue, TellsReading};
 
 use bpaf_doc::Text;
 use bpaf_line::{Error, Message, State};
 use bpaf_text::{FromText, TextFault};
-use std::alloc::AllocError;
 
 /// What the reading of a taken text is for a parser: the value; or ParseFailed, which names the
 /// current place, where the text means none; or want of memory.
@@ -31,12 +29,4 @@ pub fn read_text<T: FromText>(state: &State, text: &str) -> Result<T, Error>
     ensures { ReadsValue T.means text.now state.now.current result }
 {
     value_or_refusal(state, T::from_text(state.alloc(), text))
-}
-
-/// Appends a value to a list; refused only for want of memory, and then the value is dropped.
-pub fn push_value<T: Drop>(values: &mut Vec<T>, value: T) -> Result<(), AllocError>
-    ensures { OnOk result (values.new.items ≡ values.old.items ++ value ∷ []) }
-{
-    values.push(value)?;
-    Ok(())
 }

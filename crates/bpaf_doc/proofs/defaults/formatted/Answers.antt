@@ -1,5 +1,5 @@
 use Rattle.std.proofs.Common.{refl}
-use Rattle.bpaf_parts.proofs.shown_default.formatted.Goals as goal
+use Rattle.bpaf_doc.proofs.defaults.formatted.Goals as goal
 
 pub returns : goal.returns
 returns g c = (

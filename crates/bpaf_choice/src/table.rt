@@ -2,9 +2,9 @@
 ghost use Rattle.std.specs.Prelude.{◌≡◌, ◌⊎◌, IfOk, OnErr, Ok, map};
 ghost use Rattle.bpaf_doc.specs.Shape.{shape_of};
 ghost use Rattle.bpaf_line.specs.Marks.{Fits, CanRedo, undone, redone};
-ghost use Rattle.bpaf_laws.specs.Choice.{Chosen, BothOk, ValueOfWinner, OneOk, IsWant, is_want};
+ghost use Rattle.bpaf_laws.specs.Choice.{Chosen, BothOk, ValueOfWinner, OneOk, IsMemoryAnswer, is_memory_answer};
 ghost use Rattle.bpaf_laws.specs.Choice.{branch_of, either_shape};
-ghost use Rattle.bpaf_parts.specs.Branches.{IsStart, IsBranch, start_of, end_of};
+ghost use Rattle.bpaf_choice.specs.Branches.{IsStart, IsBranch, start_of, end_of};
 
 use crate::branch::{Branch, Start, resume};
 use bpaf_doc::Meta;
@@ -12,10 +12,8 @@ use bpaf_line::{Error, Mark, State, Steps};
 use std::alloc::{AllocError, Global};
 
 /// Whether an answer is want of memory. It takes none.
-///
-/// It is public for choices in the crates of this repository, not for callers.
-pub fn is_want<T>(answer: &Result<T, Error>) -> bool
-    ensures { result ≡ is_want answer.now }
+pub fn is_memory_answer<T>(answer: &Result<T, Error>) -> bool
+    ensures { result ≡ is_memory_answer answer.now }
 {
     match answer {
         Ok(_) => false,
@@ -33,8 +31,6 @@ pub fn is_want<T>(answer: &Result<T, Error>) -> bool
 /// of the branch which took the leftmost place taken by only one of them, else the first. Two
 /// errors are combined. Where an error of equal depths is the answer, the state is as at the start;
 /// so it is where memory is wanted.
-///
-/// It is public for choices in the crates of this repository, not for callers.
 pub fn this_or_that<T: Drop>(
     state: &mut State,
     start: Start,
@@ -46,7 +42,7 @@ pub fn this_or_that<T: Drop>(
     requires this { IsBranch start this state.old }
     ensures { Chosen (start_of start state.old) first (end_of start this state.old)
         second state.old result state.new
-        ⊎ IsWant (start_of start state.old) result state.new }
+        ⊎ IsMemoryAnswer (start_of start state.old) result state.new }
 {
     if this.depth > state.depth() {
         drop(second);
@@ -83,7 +79,7 @@ fn resume_with<T: Drop>(
     requires fits { Fits mark state.old }
     requires steps { CanRedo steps (undone mark state.old) }
     ensures { ((result ≡ answer) × (state.new ≡ redone steps (undone mark state.old)))
-        ⊎ IsWant (undone mark state.old) result state.new }
+        ⊎ IsMemoryAnswer (undone mark state.old) result state.new }
 {
     match resume(state, mark, steps) {
         Ok(()) => answer,
@@ -107,7 +103,7 @@ fn value_of_first<T: Drop>(
     requires this { IsBranch start this state.old }
     ensures { OneOk (start_of start state.old) (branch_of value (end_of start this state.old))
         error result state.new
-        ⊎ IsWant (start_of start state.old) result state.new }
+        ⊎ IsMemoryAnswer (start_of start state.old) result state.new }
 {
     if this.left == start.left && error.wrong_input() {
         state.undo(start.mark);
@@ -150,7 +146,7 @@ fn value_of_both<T: Drop>(
     requires this { IsBranch start this state.old }
     ensures { BothOk (start_of start state.old) (branch_of x (end_of start this state.old))
         (branch_of y state.old) result state.new
-        ⊎ IsWant (start_of start state.old) result state.new }
+        ⊎ IsMemoryAnswer (start_of start state.old) result state.new }
 {
     if this.left == start.left && state.len() == start.left {
         drop(y);

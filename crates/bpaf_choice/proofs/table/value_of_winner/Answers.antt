@@ -2,7 +2,7 @@ use Rattle.std.proofs.Common.{ap, subst, ◌∙◌}
 use Rattle.bpaf_line.specs.{Taking.IsWinner, Taking.ConflictsSaved, Marks.undone, Marks.redone}
 use Rattle.bpaf_laws.proofs.ChoiceLaws.{first_wins, second_wins}
 use Rattle.bpaf_laws.specs.Choice.{branch_of}
-use Rattle.bpaf_parts.proofs.table.value_of_winner.Goals as goal
+use Rattle.bpaf_choice.proofs.table.value_of_winner.Goals as goal
 
 pub returns-then-here-clause-ok : goal.returns-then-here-clause-ok
 returns-then-here-clause-ok g c =

@@ -1,9 +1,8 @@
 //! Branches of a choice, which begin at one place.
 ghost use Rattle.std.specs.Prelude.{◌≡◌, IfOk, OnOk, OnErr};
 ghost use Rattle.bpaf_line.specs.Marks.{Fits, HasReached, CanRedo, undone, redone};
-ghost use Rattle.bpaf_parts.specs.{Failures.GivesBack, Branches.IsStart, Branches.LedTo};
+ghost use Rattle.bpaf_choice.specs.Branches.{GivesBack, IsStart, LedTo};
 
-use crate::failures::wants_memory;
 use bpaf_line::{Mark, ParseFailure, State, Steps};
 use std::alloc::AllocError;
 
@@ -66,8 +65,6 @@ impl Branch {
 
 /// Goes back to a mark, and does the steps since it; where memory is refused the state is that of
 /// the mark.
-///
-/// It is public for the crates of this repository, not for callers.
 pub fn resume(state: &mut State, mark: Mark, steps: Steps) -> Result<(), AllocError>
     requires fits { Fits mark state.old }
     requires steps { CanRedo steps (undone mark state.old) }
@@ -95,7 +92,7 @@ pub fn first_failure(
     ensures { GivesBack first second (undone mark state.old)
         (redone steps (undone mark state.old)) result state.new }
 {
-    if wants_memory(&second) {
+    if second.is_memory() {
         state.undo(mark);
         return second;
     }

@@ -2,7 +2,7 @@ use Rattle.std.proofs.Common.{ap, ap₂, map, ◌∙◌, ◌++◌}
 use Rattle.std.proofs.lemmas.List.{map-append}
 use Rattle.bpaf_doc.specs.Shape.{Or, members, shape_of}
 use Rattle.bpaf_doc.proofs.Folding.{or_shape}
-use Rattle.bpaf_parts.proofs.table.or_meta.Goals as goal
+use Rattle.bpaf_choice.proofs.table.or_meta.Goals as goal
 
 pub returns : goal.returns
 returns c =

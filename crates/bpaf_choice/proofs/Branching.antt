@@ -3,10 +3,12 @@ use Rattle.std.proofs.Common.{◌≡◌, ◌⊎◌, Result, ap, sym, subst, ◌�
 use Rattle.bpaf_line.specs.Marks.{KeepsMarks, undone, redone}
 use Rattle.bpaf_line.specs.{declared.error.Error.Error, Situation.Situation, Situation.open_count}
 use Rattle.bpaf_line.proofs.Marks.{fits_undone, undone_twice}
-use Rattle.bpaf_laws.specs.{Choice.Chosen, Choice.ChoiceOutcome, Choice.IsWant, Reading.Outcome}
+use Rattle.bpaf_laws.specs.{Choice.Chosen, Choice.ChoiceOutcome, Choice.IsMemoryAnswer}
+use Rattle.bpaf_laws.specs.{Reading.Outcome}
 use Rattle.bpaf_laws.proofs.ChoiceLaws.{choice_within}
-use Rattle.bpaf_parts.specs.Branches.{HasAnswered, IsStart, LedTo, start_of, end_of}
-use Rattle.bpaf_parts.specs.{declared.branch.Branch.Branch, declared.branch.Start.Start}
+use Rattle.bpaf_choice.specs.Branches.{HasAnswered, IsStart, LedTo, start_of, end_of}
+use Rattle.bpaf_choice.specs.{declared.branch.Branch.Branch}
+use Rattle.bpaf_choice.specs.{declared.branch.Start.Start}
 
 -- what lies behind a situation that can go back to a start can go back to it too
 pub start_behind : {start : Start} {t : Situation} → IsStart start t
@@ -41,11 +43,11 @@ module _ {s : Situation} {start : Start} (begins : IsStart start s)
 
   module _ {branch : Branch} {sa t : Situation} (led : LedTo branch s sa)
       (keeps : KeepsMarks s t) where
-    -- so what is chosen is chosen of where both led
+    -- what is chosen is chosen of where both branches led
     pub chosen_kept : {T : Type 0} (a b r : Result T Error) (u : Situation)
         → Chosen (start_of start t) a (end_of start branch t) b t r u
-        ⊎ IsWant (start_of start t) r u → Chosen s a sa b t r u ⊎ IsWant s r u
+        ⊎ IsMemoryAnswer (start_of start t) r u → Chosen s a sa b t r u ⊎ IsMemoryAnswer s r u
     chosen_kept a b r u answer =
-        subst (λ w. Chosen s a w b t r u ⊎ IsWant s r u) led.there
-        (subst (λ o. Chosen o a (redone branch.steps o) b t r u ⊎ IsWant o r u)
+        subst (λ w. Chosen s a w b t r u ⊎ IsMemoryAnswer s r u) led.there
+        (subst (λ o. Chosen o a (redone branch.steps o) b t r u ⊎ IsMemoryAnswer o r u)
         (start_back keeps) answer)
