@@ -2,7 +2,7 @@
 use Rattle.std.proofs.Common.{true≢false, arith, false, Bool, refl, true, inl, sym, ◌∙◌, ◌≡◌, inr}
 use Rattle.std.proofs.{lemmas.Bool.eqb-true, lemmas.Bool.eq-eqb, Common.◌⊎◌, Common.ap}
 use Rattle.bpaf_line.specs.declared.error.Message.TheVariants.{ParseFailure, Missing}
-use Rattle.bpaf_line.specs.Messages.{CombinesSpared, can_catch, is_memory, Combines}
+use Rattle.bpaf_line.specs.Messages.{CombinesSpared, can_catch, is_memory, is_wrong_input, Combines}
 use Rattle.bpaf_line.specs.{declared.error.Message.Message, declared.error.Error.Error}
 use Rattle.bpaf_line.specs.Situation.{Situation}
 use Rattle.bpaf_laws.specs.Combinators.{is_untouched, stops_step}
@@ -73,3 +73,9 @@ pub combined_refused : (m n : Message) {g : Message}
     → (error_class n ≡ OfMissing) ⊎ (error_class n ≡ Refused) → Combines m n g
     → (error_class g ≡ OfMemory) ⊎ (error_class g ≡ Refused)
 combined_refused m n one e f c = grind (arith, stands, tests_are)
+
+-- where neither is wrong input, both together aren't
+pub combined_calm : (m n : Message) {g : Message} → is_wrong_input m ≡ false → is_wrong_input n
+    ≡ false
+    → Combines m n g → is_wrong_input g ≡ false
+combined_calm m n e f c = grind (arith, stands)

@@ -1,32 +1,34 @@
 -- Where closures can't tell apart what looks alike they agree, and a line's values look alike.
 use Rattle.std.proofs.Common.{Option, arith, subst, Bool, List, refl, map, ◌∷◌, ◌≡◌, sym, ◌∙◌, true}
-use Rattle.std.proofs.Common.{[], ap, ℕ, false, inl, inr, not, ◌&&◌, ◌++◌, ◌||◌}
+use Rattle.bpaf_exact.specs.ProgramForm.{program_alone, argument_field, flag_field, program_closed}
+use Rattle.bpaf_exact.specs.ProgramForm.{ArgumentValue, program_field, program_both, program_con}
+use Rattle.bpaf_exact.specs.ProgramForm.{whole_value, ProgramForm, word_by, whole_program}
+use Rattle.bpaf_exact.specs.ProgramForm.{program_value, alternative, program_if, WordValue}
+use Rattle.bpaf_exact.specs.ProgramForm.{key_field, completed, commands, program_optional}
+use Rattle.bpaf_exact.specs.ProgramForm.{before_commands, complete, product, FormLaw, single}
+use Rattle.bpaf_exact.specs.ProgramForm.{Agrees, ChoiceValue, CommandValue, are_plain}
+use Rattle.bpaf_exact.specs.ProgramForm.{are_words_apart, is_program, program_choice}
+use Rattle.bpaf_exact.specs.ProgramForm.{program_command, WordsApart, part, after_parts, or_part}
+use Rattle.bpaf_exact.specs.Flat.{SingleValue, ClosedValue, SingleLaw, FieldKind, Gap, Variables}
+use Rattle.bpaf_exact.specs.Flat.{own_none, own_more, repeated, AgreesOn, FrontOf, Own}
+use Rattle.bpaf_exact.specs.Flat.{FallbackValue, OptionalValue, OwnList, Closure, ReadOff, Decides}
+use Rattle.bpaf_exact.specs.Pieces.{LinePiece, Cells, Roles, One, Two, are_all_apart, either}
+use Rattle.bpaf_exact.specs.Says.{HasOneView, pair_view, OneGroup, Respects, Alike, PartOneView}
+use Rattle.std.proofs.Common.{[], ℕ, false, inl, inr, not, ◌&&◌, ◌++◌, ◌||◌}
 use Rattle.std.proofs.lemmas.List.{map-append}
-use Rattle.std.specs.{Option.IsSomeRelated, Prelude.MatchBool, Prelude.option_map}
+use Rattle.std.specs.{Prelude.MatchBool, Prelude.option_map, Option.IsSomeRelated}
 use Rattle.bpaf_base.specs.Items.{item_text}
 use Rattle.bpaf_doc.specs.Names.{Names}
 use Rattle.bpaf_text.specs.{Named.KeyWithValue, Named.Named as Key, Meaning.SpellsUnsigned}
 use Rattle.bpaf_laws.specs.{Command.Called, Command.opening_words, Reading.Outcome}
-use Rattle.bpaf_exact.proofs.ProgramForm.{whole_law, words_apart}
-use Rattle.bpaf_exact.proofs.{Cuts.one_take, Cuts.one_cut, Wrappers.alternative_single}
+use Rattle.bpaf_exact.proofs.{ProgramForm.whole_law, ProgramForm.words_apart, Programs.opens_one}
 use Rattle.bpaf_exact.proofs.{Commands.none_opens, Commands.opens_apart, Leaves.last_same}
-use Rattle.bpaf_exact.proofs.{Programs.opens_one, Repeat.own_nil}
-use Rattle.bpaf_exact.specs.ProgramForm.{program_alone, argument_field, flag_field, program_closed}
-use Rattle.bpaf_exact.specs.ProgramForm.{ArgumentValue, program_field, program_both, program_con}
-use Rattle.bpaf_exact.specs.ProgramForm.{whole_value, ProgramForm, word_by}
-use Rattle.bpaf_exact.specs.ProgramForm.{whole_program, program_value, alternative, program_if}
-use Rattle.bpaf_exact.specs.ProgramForm.{WordValue, key_field, completed, commands}
-use Rattle.bpaf_exact.specs.ProgramForm.{program_optional, before_commands, complete, product}
-use Rattle.bpaf_exact.specs.Flat.{SingleValue, ClosedValue, SingleLaw, FieldKind, Gap, Variables}
-use Rattle.bpaf_exact.specs.Flat.{own_none, own_more, repeated, AgreesOn, FrontOf, Own}
-use Rattle.bpaf_exact.specs.Flat.{FallbackValue, OptionalValue, OwnList, Closure}
-use Rattle.bpaf_exact.specs.Flat.{Decides, Groups, ByName, LastOf, either_value}
-use Rattle.bpaf_exact.specs.ProgramForm.{FormLaw, single, Agrees, ChoiceValue, CommandValue}
-use Rattle.bpaf_exact.specs.ProgramForm.{are_plain, are_words_apart, is_program, program_choice}
-use Rattle.bpaf_exact.specs.ProgramForm.{program_command, WordsApart}
-use Rattle.bpaf_exact.specs.Pieces.{LinePiece, Cells, Roles, One, Two, are_all_apart, either}
+use Rattle.bpaf_exact.proofs.{Wrappers.alternative_single, Cuts.one_take, Cuts.one_cut}
+use Rattle.bpaf_exact.proofs.Repeat.{own_nil}
+use Rattle.bpaf_exact.specs.Parts.{Part, PartForm, PartAlone, PartThen}
+use Rattle.bpaf_exact.specs.Flat.{Groups, ByName, LastOf, either_value}
+use Rattle.bpaf_exact.specs.{ProgramForm.CellsValue, ProgramForm.FieldThen, Says.PartFormOneView}
 use Rattle.bpaf_exact.specs.Pieces.{is_own}
-use Rattle.bpaf_exact.specs.Says.{HasOneView, pair_view, OneGroup, Respects, Alike}
 
 -- Closures.
 
@@ -48,12 +50,15 @@ module _ (A B X Y : Type 0) (see : A → X) (look : B → Y) (f : Closure A B)
   )
   closed_view (complete wide k q value) u = made_view value u
   closed_view (commands optional value) u = made_view value u
+  closed_view (before_commands value) u = made_view value u
+  closed_view (after_parts value) u = made_view value u
   closed_view _ u = tt
 
   -- what a constructor makes of values that look alike looks alike
   pub con_view : (s : ProgramForm A) → HasOneView see s → HasOneView look (program_con f s)
   con_view (product wide named q fields) u = made_view fields.value u
   con_view (before_commands value) u = made_view value u
+  con_view (after_parts value) u = made_view value u
   con_view _ u = tt
 
 -- Leaves.
@@ -71,7 +76,7 @@ key_view : {T X : Type 0} {see : T → X} (wide may_choose : Bool) (q : Roles)
 key_view wide b q gap piece groups none = grind arith
 
 -- what something means, where it is there
-meant_view : {Y T X : Type 0} {see : T → X} {means : Y → T → Type 0}
+pub meant_view : {Y T X : Type 0} {see : T → X} {means : Y → T → Type 0}
     → ((y : Y) → Alike see (means y)) → (kept : Option Y) → Alike see (IsSomeRelated means kept)
 meant_view u x v w a b = grind arith
 
@@ -83,7 +88,7 @@ flag_view x y see clones u key present absent variables =
     grind (arith, front_view, key_view, meant_view)
 
 -- a key and its value
-argument_piece : {T X : Type 0} {see : T → X} {means : List ℕ → T → Type 0}
+pub argument_piece : {T X : Type 0} {see : T → X} {means : List ℕ → T → Type 0}
     → ((text : List ℕ) → Alike see (means text)) → (o : LinePiece)
     → Alike see (ArgumentValue means o)
 argument_piece u x v w a b = grind arith
@@ -195,11 +200,47 @@ module _ {env : Variables} {T X : Type 0} {inner : Outcome T} {names : List Name
 
 -- Products.
 
+-- a part alone
+alone_part_view : {T X : Type 0} {see : T → X} {p : Part T} → PartOneView see p → (cs : Cells)
+    → Alike see (PartAlone p cs)
+alone_part_view u cs v w a b = (u cs a.left b.left v w a.turn b.turn).0
+
+-- a part before others
+then_view : {A B X Y : Type 0} {see : A → X} {look : B → Y} {p : Part A} {rest : CellsValue B}
+    → PartOneView see p → ((cs : Cells) → Alike look (rest cs)) → (cs : Cells)
+    → Alike (pair_view see look) (PartThen p rest cs)
+then_view {rest} u more cs v w a b =
+    let i = u cs a.left b.left v.0 w.0 a.own.turn b.own.turn in
+    let j = more a.left v.1 w.1 a.behind (subst (λ z. rest z w.1) (sym i.1) b.behind) in
+    let first = i.0 in
+    cc
+
+-- a named field before others
+field_then_view : {A B X Y : Type 0} {see : A → X} {look : B → Y} {q : Roles}
+    {first : List LinePiece → A → Type 0} {rest : CellsValue B}
+    → ((os : List LinePiece) → Alike see (first os)) → ((cs : Cells) → Alike look (rest cs))
+    → (cs : Cells) → Alike (pair_view see look) (FieldThen A B q first rest cs)
+field_then_view u more cs v w a b = grind (arith, one_take)
+
 -- a field before others
 pub both_view : (A B X Y : Type 0) (see : A → X) (look : B → Y) (own others : List Names)
-    (s : ProgramForm A) (t : ProgramForm B) → HasOneView see s → HasOneView look t
-    → HasOneView (pair_view see look) (program_both own others s t)
-both_view x y z u see look own others x1 x2 x3 n = grind (arith, if_view, one_take)
+    (s : ProgramForm A) (t : ProgramForm B) {env : Variables} {inner : Outcome B}
+    {words : List (List ℕ)} → FormLaw env inner others words t → HasOneView see s
+    → HasOneView look t → HasOneView (pair_view see look) (program_both own others s t)
+both_view A B X Y see look own others (complete wide ByName q first) (part p) l m n = if_view
+    (pair_view see look) (after_parts (FieldThen A B q first (PartAlone p)))
+    (are_all_apart own others) (field_then_view m (alone_part_view n))
+both_view A B X Y see look own others (complete wide ByName q first) (after_parts value) l m n =
+    if_view (pair_view see look) (after_parts (FieldThen A B q first value))
+    (are_all_apart own others) (field_then_view m n)
+both_view A B X Y see look own others (part p) (product wide named r rest) l m n = if_view
+    (pair_view see look) (after_parts (PartThen p (ReadOff B r rest.value)))
+    (are_all_apart own others) (then_view m (λ cs v w a b. grind (arith, one_cut)))
+both_view A B X Y see look own others (part p) (before_commands value) l m n = if_view
+    (pair_view see look) (after_parts (PartThen p value)) (are_all_apart own others) (then_view m n)
+both_view A B X Y see look own others (part p) (after_parts value) l m n = if_view
+    (pair_view see look) (after_parts (PartThen p value)) (are_all_apart own others) (then_view m n)
+both_view A B X Y see look own others s t l m n = grind (arith, if_view, one_take)
 
 module _ {T X : Type 0} (see : T → X) where
   -- the last field
@@ -224,6 +265,8 @@ module _ {T X : Type 0} (see : T → X) where
           → (cs : Cells) → Alike see (whole_value w cs)
       by_whole (product wide named q fields) l u = grind (arith, one_cut)
       by_whole (before_commands value) l u = u
+      by_whole (part p) l u = alone_part_view u
+      by_whole (after_parts value) l u = u
       by_whole _ l u = λ cs v w a b. absurd a
 
 -- Commands and choices.
@@ -290,26 +333,16 @@ module _ {A B X : Type 0} {see : A → X} {f : Closure A B}
     alike_agrees gap.absent one.1,
   )
   view_agrees (complete wide k q value) one = λ os. alike_agrees (value os) (one os)
-  view_agrees (product wide named q fields) one = λ os. alike_agrees (fields.value os) (one os)
   view_agrees (commands optional value) one = λ cs. alike_agrees (value cs) (one cs)
+  view_agrees (before_commands value) one = λ cs. alike_agrees (value cs) (one cs)
+  view_agrees (after_parts value) one = λ cs. alike_agrees (value cs) (one cs)
   view_agrees _ one = tt
 
-module _ {A B : Type 0} (f : Closure A B) (decides : Decides f) where
-  -- A closure that decides agrees where the values are one.
-  pub closure_agrees : (s : ProgramForm A) → HasOneView (λ v. v) s → Agrees f s
-  closure_agrees = view_agrees (λ x y v e a n. decides x v a (rw e n))
+-- what may be a part
+pub or_part_view : {T X : Type 0} (see : T → X) (s : ProgramForm T) (p : PartForm T)
+    → HasOneView see s → PartFormOneView see p → HasOneView see (or_part s p)
+or_part_view see s p u w = grind arith
 
-  -- Where it has one answer to each input, what it makes of one value is one.
-  pub closed_one : ((x : A) (v w : B) → f.yes x v → f.yes x w → v ≡ w) → (s : ProgramForm A)
-      → HasOneView (λ v. v) s → HasOneView (λ v. v) (program_closed f s)
-  closed_one once = grind (arith, closed_view)
-
--- an argument has one value where each text means one
-pub argument_one : {T : Type 0} {means : List ℕ → T → Type 0}
-    → ((text : List ℕ) → Alike (λ v. v) (means text)) → (argument : KeyWithValue)
-    (variables : Variables) → HasOneView (λ v. v) (argument_field means argument variables)
-argument_one {T} {means} one = argument_view T T (λ v. v) means one
-
--- as a text does that is a number
+-- a text means one number
 pub number_one : (bits : ℕ) (text : List ℕ) → Alike (λ n. n) (SpellsUnsigned bits text)
 number_one bits text v w a b = a.value_of ∙ sym b.value_of

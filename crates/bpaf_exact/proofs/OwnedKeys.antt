@@ -1,15 +1,15 @@
 -- Of each combinator: the own keys of its form are those with its names, where the inner ones' are.
-use Rattle.std.proofs.Common.{append-nil, arith, false, subst, Bool, List, true, ◌++◌, [], ℕ}
-use Rattle.bpaf_doc.specs.Names.{Names}
-use Rattle.bpaf_exact.proofs.Names.{either_owns}
 use Rattle.bpaf_exact.specs.Flat.{FieldKind, repeated, EachWord, OneWord, Closure, ByName, Groups}
-use Rattle.bpaf_exact.specs.Flat.{keys, Gap}
-use Rattle.bpaf_exact.specs.Pieces.{LinePiece, no_roles, either, Roles, Owns}
 use Rattle.bpaf_exact.specs.ProgramForm.{program_optional, program_dressed, program_choice, product}
 use Rattle.bpaf_exact.specs.ProgramForm.{program_closed, program_alone, program_field, program_both}
 use Rattle.bpaf_exact.specs.ProgramForm.{whole_program, choice_only, program_con, alternative}
 use Rattle.bpaf_exact.specs.ProgramForm.{ProgramForm, program_if, key_field, completed, complete}
-use Rattle.bpaf_exact.specs.ProgramForm.{single}
+use Rattle.std.proofs.Common.{append-nil, arith, false, subst, Bool, List, true, ◌++◌, [], ℕ}
+use Rattle.bpaf_doc.specs.Names.{Names}
+use Rattle.bpaf_exact.proofs.Names.{either_owns}
+use Rattle.bpaf_exact.specs.Pieces.{LinePiece, no_roles, either, Roles, Owns}
+use Rattle.bpaf_exact.specs.{ProgramForm.single, ProgramForm.or_part, Flat.keys, Flat.Gap}
+use Rattle.bpaf_exact.specs.Parts.{PartForm}
 
 -- own items are those with one of these names
 abbrev pub FormOwns : {T : Type 0} → List Names → ProgramForm T → Type 0
@@ -108,6 +108,11 @@ both_owns s t a b = grind (arith, if_owns, either_owns)
 pub con_owns : {A B : Type 0} {names : List Names} (f : Closure A B) (s : ProgramForm A)
     → OwnsKeys names s → OwnsKeys names (program_con f s)
 con_owns f s h = grind arith
+
+-- what may be a part
+pub or_part_owns : {T : Type 0} {names : List Names} {s : ProgramForm T} (p : PartForm T)
+    → OwnsKeys names s → OwnsKeys names (or_part s p)
+or_part_owns p h = grind arith
 
 -- a whole program
 pub whole_owns : {T : Type 0} {names : List Names} (s : ProgramForm T) → OwnsKeys names s

@@ -1,25 +1,24 @@
 -- From places to cells: the first wanted place, its piece, what is left; and how many are present.
 use Rattle.std.proofs.Common.{option_and_then, if◌then◌else◌, add-one, Option, length, arith, false}
 use Rattle.std.proofs.Common.{Bool, List, None, Some, refl, true, zero, ap₂, suc, sym, ◌+◌, ℕ, ◌<◌}
-use Rattle.std.proofs.Common.{◌∙◌, ◌∷◌, ◌≡◌, ◌≢◌, ◌≤◌, [], ap}
-use Rattle.std.proofs.lemmas.Bool.{false_from_ne_true, true_from_ne_false, and_right, both_ways}
-use Rattle.std.specs.Option.{option_map_or, is_some}
-use Rattle.bpaf_base.specs.Items.{value_text, is_key_of, item_text, any_item}
-use Rattle.bpaf_base.specs.declared.arg.Arg.{Arg}
-use Rattle.bpaf_doc.specs.Names.{Names}
-use Rattle.bpaf_base.proofs.Count.{count_below-same, count_below-some}
 use Rattle.bpaf_line.proofs.Places.{open_item_there, open_has_item, open_in_line, taken_other}
-use Rattle.bpaf_line.proofs.Places.{taken_stays, taken_here}
-use Rattle.bpaf_line.specs.Situation.{open_count, take_place, Situation, in_scope}
-use Rattle.bpaf_base.specs.Count.{count_below}
-use Rattle.bpaf_line.specs.Situation.{is_taken, is_open, item_at}
-use Rattle.bpaf_line.specs.Taking.{value_after, open_item, is_match, HasNone, IsFirst}
-use Rattle.bpaf_exact.proofs.{Cuts.begin_at}
+use Rattle.bpaf_line.specs.Situation.{open_count, take_place, Situation, in_scope, is_taken}
 use Rattle.bpaf_exact.specs.Pieces.{TakesPieces, takes_later, TakesPiece, takes_more, takes_none}
 use Rattle.bpaf_exact.specs.Pieces.{LinePiece, with_next, WithNext, is_value, Foreign, IsNamed}
-use Rattle.bpaf_exact.specs.Pieces.{pieces, Alone, Cells, Roles, Role, Owns, One}
 use Rattle.bpaf_exact.specs.Flat.{present_count, first_later, first_cells, TakesFirst, first_one}
-use Rattle.bpaf_exact.specs.{Flat.first_two, Flat.NotOwn, Flat.Steady, Flat.cells, Pieces.Two}
+use Rattle.std.proofs.lemmas.Bool.{false_from_ne_true, true_from_ne_false, and_right, both_ways}
+use Rattle.std.proofs.Common.{◌∙◌, ◌∷◌, ◌≡◌, ◌≢◌, ◌≤◌, [], ap}
+use Rattle.std.specs.Option.{option_map_or, is_some}
+use Rattle.bpaf_base.specs.Items.{value_text, is_key_of, item_text, any_item}
+use Rattle.bpaf_base.specs.{declared.arg.Arg.Arg, Count.count_below}
+use Rattle.bpaf_doc.specs.Names.{Names}
+use Rattle.bpaf_base.proofs.Count.{count_below-same, count_below-some}
+use Rattle.bpaf_line.proofs.Places.{taken_stays, taken_here}
+use Rattle.bpaf_line.specs.Taking.{value_after, open_item, is_match, HasNone, IsFirst}
+use Rattle.bpaf_line.specs.Situation.{is_open, item_at}
+use Rattle.bpaf_exact.proofs.Cuts.{begin_at}
+use Rattle.bpaf_exact.specs.Pieces.{pieces, Alone, Cells, Roles, Role, Owns, One, Two}
+use Rattle.bpaf_exact.specs.Flat.{first_two, NotOwn, Steady, cells}
 
 -- taking a place changes what is taken and the current place alone
 pub take_steady : {s : Situation} {p : ℕ} → Steady s (take_place s p)

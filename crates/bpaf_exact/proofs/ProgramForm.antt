@@ -1,43 +1,20 @@
 -- Each parser keeps to the laws of its form to a program, where its inner parsers do, by its table
 -- too; so does an outcome that allows no more; and the theorem of exactness.
 use Rattle.std.proofs.Common.{append-nil, true≢false, bytes_eq, Option, Result, length, ⊎_elim, Err}
-use Rattle.std.proofs.Common.{arith, false, None, Some, refl, true, ◌&&◌, ◌++◌, Bool, List, inl}
-use Rattle.std.proofs.Common.{inr, not, sym, ◌∙◌, ◌≡◌, ◌⊎◌, Ok, [], ap, ℕ}
-use Rattle.std.proofs.lemmas.Bool.{false_from_ne_true, and_parts, le-leb, lt-ltb}
-use Rattle.std.proofs.lemmas.Slice.Eq.{bytes_eq-Decides}
-use Rattle.std.specs.{List.list_all, Global.Vec}
-use Rattle.bpaf_base.specs.{Items.is_command_word, declared.arg.Arg.Arg}
-use Rattle.bpaf_doc.specs.Names.{Names}
-use Rattle.bpaf_line.specs.Situation.{Situation, beginning, Context, item_in}
-use Rattle.bpaf_line.specs.{declared.error.Error.Error}
+use Rattle.std.proofs.Common.{arith, false, refl, true, ◌&&◌, ◌++◌, Bool, List, inl, inr, not, sym}
 use Rattle.bpaf_laws.specs.Combinators.{FallbackOutcome, CollectOutcome, CountOutcome, GuardOutcome}
-use Rattle.bpaf_laws.specs.Combinators.{ParseOutcome, GivesAnswer, LastOutcome, ManyOutcome, is_nil}
+use Rattle.bpaf_laws.specs.Combinators.{ParseOutcome, GivesAnswer, LastOutcome, ManyOutcome}
 use Rattle.bpaf_laws.specs.Combinators.{SomeOutcome, HideOutcome, TurnOutcome, GivesClone}
-use Rattle.bpaf_laws.specs.Command.{opening_words, is_one_of, Called}
-use Rattle.bpaf_laws.specs.{Product.ProductOutcome, Product.BothOutcome, Choice.ChoiceOutcome}
-use Rattle.bpaf_laws.specs.{Combinators.MapOutcome, Combinators.Gives, Reading.Outcome}
-use Rattle.bpaf_exact.proofs.Classes.{caught_class, memory_class, kept_class, stops_at, goes_on}
-use Rattle.bpaf_exact.proofs.Programs.{record_program, command_law, con_program, before_law}
 use Rattle.bpaf_exact.proofs.Commands.{optional_commands, choice_commands, closed_commands}
 use Rattle.bpaf_exact.proofs.Product.{named_both_law, named_last_law, named_con_law, none_counted}
-use Rattle.bpaf_exact.proofs.Product.{count_none, both_law, last_law, con_law}
 use Rattle.bpaf_exact.proofs.Wrappers.{alternative_single, closed_alternative, fallback_field}
-use Rattle.bpaf_exact.proofs.Wrappers.{closed_single, left_out_law, closed_law, single_law}
-use Rattle.bpaf_exact.proofs.Names.{apart_of_names, either_owns, foreign_of, both_hold}
-use Rattle.bpaf_exact.proofs.Repeat.{some_agrees_on, last_of_law, repeat_law}
-use Rattle.bpaf_exact.proofs.{Commands.closed_program, Commands.choice_law, Cuts.one_cut}
-use Rattle.bpaf_exact.proofs.Places.{open_present, same_cells}
 use Rattle.bpaf_exact.specs.Flat.{FieldsReading, RepeatOutcome, OptionalValue, FallbackValue, cells}
-use Rattle.bpaf_exact.specs.Flat.{closed_memory, guard_closure, optional_none, optional_some, class}
-use Rattle.bpaf_exact.specs.Flat.{parse_closure, both_reading, FallbackEval, OptionalEval, FieldLaw}
-use Rattle.bpaf_exact.specs.Flat.{fallback_err, optional_err, list_closure, some_closure, FieldKind}
-use Rattle.bpaf_exact.specs.Flat.{ClosedValue, ErrorClass, ClosedEval, closed_err, closed_yes, keys}
-use Rattle.bpaf_exact.specs.Flat.{fallback_memory, optional_memory, answer_closure, fallback_given}
-use Rattle.bpaf_exact.specs.Flat.{fallback_no, fallback_ok, map_closure, NonePresent, SingleValue}
-use Rattle.bpaf_exact.specs.Flat.{FieldsLaw, IsWholeIn, Variables, SingleLaw, closed_no, OfMemory}
-use Rattle.bpaf_exact.specs.Flat.{error_class, repeated, KeepsTo, ReadOff, Refused, OwnList}
-use Rattle.bpaf_exact.specs.Flat.{Closure}
-use Rattle.bpaf_exact.specs.Flat.{Decides, Before, ByName, Caught, Groups, LastOf, Gap}
+use Rattle.bpaf_exact.specs.Flat.{guard_closure, class, parse_closure, both_reading, OptionalEval}
+use Rattle.bpaf_exact.specs.Flat.{FieldLaw, list_closure, some_closure, FieldKind, ClosedValue}
+use Rattle.bpaf_exact.specs.Flat.{ErrorClass, ClosedEval, keys, answer_closure, map_closure}
+use Rattle.bpaf_exact.specs.Flat.{NonePresent, SingleValue, FieldsLaw, IsWholeIn, Variables}
+use Rattle.bpaf_exact.specs.Flat.{SingleLaw, OfMemory, error_class, repeated, ReadOff, Refused}
+use Rattle.bpaf_exact.specs.Flat.{OwnList, Closure, Decides, Before, ByName, Caught, Groups, LastOf}
 use Rattle.bpaf_exact.specs.ProgramForm.{program_dressed, are_words_apart, before_commands, FormLaw}
 use Rattle.bpaf_exact.specs.ProgramForm.{product_reading, program_choice, program_closed, completed}
 use Rattle.bpaf_exact.specs.ProgramForm.{product_roles, program_alone, program_field, program_value}
@@ -48,27 +25,33 @@ use Rattle.bpaf_exact.specs.ProgramForm.{commands, complete, is_named, EndLaw, w
 use Rattle.bpaf_exact.specs.ProgramForm.{IsSpelledLine, program_both, line_cells, is_record}
 use Rattle.bpaf_exact.specs.ProgramForm.{are_plain, program_optional, IsAcceptedOrWant}
 use Rattle.bpaf_exact.specs.ProgramForm.{program_command, ProgramForm, alternative, choice_only}
-use Rattle.bpaf_exact.specs.ProgramForm.{Accepted, product, IsExact, single, RunRan}
+use Rattle.bpaf_exact.specs.ProgramForm.{Accepted, product, IsExact, single, RunRan, part}
+use Rattle.bpaf_exact.proofs.Tables.{AllowsNoMore, no_more, narrower, narrower_part, map_table}
+use Rattle.bpaf_exact.proofs.Tables.{hides, parse_table, guard_table, optional_table, many_table}
+use Rattle.std.proofs.lemmas.Bool.{false_from_ne_true, and_parts, le-leb, lt-ltb}
+use Rattle.std.proofs.Common.{◌∙◌, ◌≡◌, ◌⊎◌, Ok, [], ap, ℕ}
+use Rattle.std.proofs.lemmas.Slice.Eq.{bytes_eq-Decides}
+use Rattle.bpaf_laws.specs.Command.{opening_words, is_one_of, Called}
+use Rattle.bpaf_laws.specs.{Product.ProductOutcome, Product.BothOutcome, Choice.ChoiceOutcome}
+use Rattle.bpaf_laws.specs.{Combinators.MapOutcome, Combinators.Gives, Reading.Outcome}
+use Rattle.bpaf_exact.proofs.Programs.{record_program, command_law, con_program, before_law}
+use Rattle.bpaf_exact.proofs.Wrappers.{closed_single, left_out_law, closed_law, single_law}
+use Rattle.bpaf_exact.proofs.Tables.{some_table, collect_table, count_table, fallback_table}
+use Rattle.bpaf_exact.proofs.Names.{apart_of_names, either_owns, foreign_of, both_hold}
+use Rattle.bpaf_exact.proofs.Product.{count_none, both_law, last_law, con_law}
+use Rattle.bpaf_exact.proofs.Repeat.{some_agrees_on, last_of_law, repeat_law}
+use Rattle.bpaf_exact.proofs.{PartBefore.alone_part_law, PartBefore.then_law, Classes.memory_class}
+use Rattle.bpaf_exact.proofs.{Commands.closed_program, Commands.choice_law, Cuts.one_cut}
+use Rattle.bpaf_exact.proofs.Places.{open_present, same_cells}
 use Rattle.bpaf_exact.specs.Pieces.{are_all_apart, LinePiece, either, Roles, Owns, Cut}
-
--- what b allows a allows too, of a refusal one of the same class
-pub record AllowsNoMore (T : Type 0) (a b : Outcome T) : Type 0 where
-  pub value : (s t : Situation) (v : T) → b s (Ok v) t → a s (Ok v) t
-  pub refusal : (s t : Situation) (e : Error) → b s (Err e) t
-      → (d : Error) × a s (Err d) t × (class d ≡ class e)
-
--- an outcome allows no more where another allows each of its answers
-pub no_more : {T : Type 0} {a b : Outcome T}
-    → ((s t : Situation) (r : Result T Error) → b s r t → a s r t) → AllowsNoMore T a b
-no_more f =
-    record { value = λ s t v o. f s t (Ok v) o; refusal = λ s t e o. (e, f s t (Err e) o, refl) }
-
--- it keeps to what that keeps to
-pub narrower : {env : Variables} {T : Type 0} {a b : Outcome T}
-    {gives : Situation → T → Situation → Type 0}
-    {refuses : Situation → ErrorClass → Situation → Type 0} → AllowsNoMore T a b
-    → KeepsTo env T a gives refuses → KeepsTo env T b gives refuses
-narrower n l = grind arith
+use Rattle.bpaf_exact.specs.Parts.{Part, PartForm, PartFormLaw, PartThen, some_part}
+use Rattle.bpaf_exact.specs.ProgramForm.{after_parts, or_part, FieldThen}
+use Rattle.bpaf_exact.specs.Flat.{Gap}
+use Rattle.std.specs.List.{list_all}
+use Rattle.bpaf_base.specs.{Items.is_command_word, declared.arg.Arg.Arg}
+use Rattle.bpaf_doc.specs.Names.{Names}
+use Rattle.bpaf_line.specs.Situation.{Situation, beginning, Context, item_in}
+use Rattle.bpaf_line.specs.{declared.error.Error.Error, Messages.is_wrong_input}
 
 -- the cells with which parsing begins are those of the line
 pub first_cells_are : (context : Context) → cells (beginning context) ≡ line_cells context
@@ -146,6 +129,20 @@ program_closed_law {s = commands false value} f g l = record {
   };
 }
 program_closed_law {s = commands true value} f g l = record {
+  by = record {
+    roles = l.by.roles;
+    program = closed_program g Refused l.by.program;
+    owns = l.by.owns;
+  };
+}
+program_closed_law {s = before_commands value} f g l = record {
+  by = record {
+    roles = l.by.roles;
+    program = closed_program g Refused l.by.program;
+    owns = l.by.owns;
+  };
+}
+program_closed_law {s = after_parts value} f g l = record {
   by = record {
     roles = l.by.roles;
     program = closed_program g Refused l.by.program;
@@ -252,6 +249,8 @@ end_law (product wide false q fields) h l =
     record { roles = _; program = record_program l.by.0; owns = l.by.1 }
 end_law (commands optional value) h l = l.by
 end_law (before_commands value) h l = l.by
+end_law (part p) h l = record { roles = p.roles; program = alone_part_law l.by.0; owns = l.by.1 }
+end_law (after_parts value) h l = l.by
 end_law _ h l = absurd cc
 
 module _ {env : Variables} {T : Type 0} {outcome : Outcome T} {names : List Names}
@@ -274,6 +273,8 @@ module _ {env : Variables} {T : Type 0} {outcome : Outcome T} {names : List Name
   program_field_law {s = complete wide k q value} l = l
   program_field_law {s = commands optional value} l = l
   program_field_law {s = before_commands value} l = l
+  program_field_law {s = part p} l = l
+  program_field_law {s = after_parts value} l = l
   program_field_law l =
       completed_law (SingleValue T) (λ k q o. o) (λ k q group gap l. single_law l) l
 
@@ -325,6 +326,35 @@ follows : (k : FieldKind) (q : Roles) {r : Roles} {own : List Names} (others : L
     → Owns (keys k q) own → Owns r others → may_follow k own others ≡ true → Before k q r
 follows k q others a b h = grind (arith, apart_of_names, foreign_of, false_from_ne_true)
 
+module _ {env : Variables} {A B : Type 0} {first : Outcome A} {rest : Outcome B}
+    (own others : List Names) {words : List (List ℕ)} where
+  -- a named part before what keeps to the laws of a program
+  part_before : {p : Part A} {r : Roles} {behind : CellsValue B}
+      → FormLaw env first own words (part p) → ProgramLaw env B rest r behind → Owns r others
+      → FormLaw env (BothOutcome first rest) (own ++ others) []
+      (program_if (are_all_apart own others) (after_parts (PartThen p behind)))
+  part_before la lr owns = if_law (are_all_apart own others) (λ h. record {
+    by = record {
+      roles = _;
+      program = then_law la.by.0 lr (apart_of_names la.by.1 owns h);
+      owns = either_owns la.by.1 owns;
+    };
+  })
+
+  -- a named field before what is a part or follows parts
+  before_others : {wide : Bool} {q r : Roles} {fv : List LinePiece → A → Type 0}
+      {behind : CellsValue B} → ProgramLaw env B rest r behind
+      → FormLaw env first own words (complete wide ByName q fv) → Owns r others
+      → FormLaw env (BothOutcome first rest) (own ++ others) []
+      (program_if (are_all_apart own others) (after_parts (FieldThen A B q fv behind)))
+  before_others lr la owns = if_law (are_all_apart own others) (λ h. record {
+    by = record {
+      roles = _;
+      program = before_law la.by.0 lr (apart_of_names la.by.1 owns h);
+      owns = either_owns la.by.1 owns;
+    };
+  })
+
 -- a field before others
 pub program_both_law : {env : Variables} {A B : Type 0} {first : Outcome A} {rest : Outcome B}
     {own others : List Names} {words : List (List ℕ)} {s : ProgramForm A} {t : ProgramForm B}
@@ -355,6 +385,16 @@ program_both_law {own} {others} {s = complete wide ByName q fv} {t = before_comm
         owns = either_owns la.by.1 lb.by.owns;
       };
     })
+program_both_law {own} {others} {s = complete wide ByName q fv} {t = part p} la lb =
+    before_others own others (alone_part_law lb.by.0) la lb.by.1
+program_both_law {own} {others} {s = complete wide ByName q fv} {t = after_parts rv} la lb =
+    before_others own others lb.by.program la lb.by.owns
+program_both_law {own} {others} {s = part p} {t = product wide named r fields} la lb =
+    part_before own others la (record_program lb.by.0) lb.by.1
+program_both_law {own} {others} {s = part p} {t = before_commands rv} la lb =
+    part_before own others la lb.by.program lb.by.owns
+program_both_law {own} {others} {s = part p} {t = after_parts rv} la lb =
+    part_before own others la lb.by.program lb.by.owns
 program_both_law la lb = record { by = tt }
 
 -- the constructor of a product
@@ -376,7 +416,23 @@ program_con_law {s = before_commands value} makes l = record {
     owns = l.by.owns;
   };
 }
+program_con_law {s = after_parts value} makes l = record {
+  by = record {
+    roles = l.by.roles;
+    program = con_program makes l.by.program;
+    owns = l.by.owns;
+  };
+}
 program_con_law makes l = record { by = tt }
+
+-- what is a part, or as it was
+pub or_part_law : {env : Variables} {T : Type 0} {outcome : Outcome T} {names : List Names}
+    {words : List (List ℕ)} (s : ProgramForm T) (p : PartForm T)
+    → FormLaw env outcome names words s → PartFormLaw env outcome names p
+    → FormLaw env outcome names words (or_part s p)
+or_part_law no_program (some_part p) l lp = record { by = lp.by }
+or_part_law (after_parts value) (some_part p) l lp = record { by = lp.by }
+or_part_law s p l lp = grind arith
 
 -- THE THEOREM: on every line, spelled by words, an answer of a run of a program is a value only
 -- where that is one of the program's; and where it has a value, it is one, or want of memory.
@@ -413,7 +469,7 @@ narrower_program n l = record { others = l.others; keeps = narrower n l.keeps }
 pub narrower_form : {env : Variables} {T : Type 0} {a b : Outcome T} {names : List Names}
     {words : List (List ℕ)} {s : ProgramForm T} → AllowsNoMore T a b
     → FormLaw env a names words s → FormLaw env b names words s
-narrower_form n l = grind (arith, narrower, narrower_program)
+narrower_form n l = grind (arith, narrower, narrower_program, narrower_part)
 
 -- By their tables.
 
@@ -432,63 +488,33 @@ module _ {env : Variables} {A : Type 0} {inner : Outcome A} {names : List Names}
   -- Each keeps to the laws of its form: map
   pub map_law : {B : Type 0} (answers : A → B → Type 0)
       → FormLaw env (MapOutcome inner answers) names words (program_closed (map_closure answers) s)
-  map_law {B} answers = narrower_form (no_more by_answer) (program_closed_law
+  map_law {B} answers = narrower_form (no_more (map_table answers)) (program_closed_law
       (map_closure answers) (never_refuses (map_closure answers) (λ x n. n) s) l)
-    where
-      by_answer : (s t : Situation) (r : Result B Error) → MapOutcome inner answers s r t
-          → ClosedEval A B inner (map_closure answers) Refused s r t
-      by_answer s t (Ok v) o = closed_yes o.1 o.2
-      by_answer s t (Err e) o = closed_err o
 
   -- parse
   pub parse_law : {B E : Type 0} (answers : A → Result B E → Type 0)
       (shown : E → Option (List ℕ)) → Agrees (parse_closure answers) s
       → FormLaw env (ParseOutcome inner answers shown) names words
       (program_closed (parse_closure answers) s)
-  parse_law {B} answers shown agrees =
-      narrower_form (no_more by_answer) (program_closed_law (parse_closure answers) agrees l)
-    where
-      by_answer : (s t : Situation) (r : Result B Error) → ParseOutcome inner answers shown s r t
-          → ClosedEval A B inner (parse_closure answers) Refused s r t
-      by_answer s t (Ok v) o = closed_yes o.1 o.2
-      by_answer s t (Err e) (inl o) = closed_err o
-      by_answer s t (Err e) (inr o) = ⊎_elim (λ memory. closed_memory o.1 (ap error_class memory))
-          (λ told. closed_no o.1 (o.2, o.3) (ap error_class told.1)) o.4
+  parse_law answers shown agrees = narrower_form (no_more (parse_table answers shown))
+      (program_closed_law (parse_closure answers) agrees l)
 
   -- guard
   pub guard_law : (checks : A → Bool → Type 0) (message : List ℕ)
       → Agrees (guard_closure checks) s → FormLaw env (GuardOutcome inner checks message) names
       words (program_closed (guard_closure checks) s)
-  guard_law checks message agrees =
-      narrower_form (no_more by_answer) (program_closed_law (guard_closure checks) agrees l)
-    where
-      by_answer : (s t : Situation) (r : Result A Error) → GuardOutcome inner checks message s r t
-          → ClosedEval A A inner (guard_closure checks) Refused s r t
-      by_answer s t (Ok v) o = closed_yes o.0 (refl, o.1)
-      by_answer s t (Err e) (inl o) = closed_err o
-      by_answer s t (Err e) (inr o) = ⊎_elim (λ told. closed_no o.1 o.2 (ap error_class told))
-          (λ memory. closed_memory o.1 (ap error_class memory)) o.3
+  guard_law checks message agrees = narrower_form (no_more (guard_table checks message))
+      (program_closed_law (guard_closure checks) agrees l)
 
   -- hide
   pub hide_law : FormLaw env (HideOutcome inner) names words (program_dressed s)
-  hide_law = program_dressed_law (narrower_form (record {
-    value = λ s t v o. o;
-    refusal = λ s t e o. (o.0, o.1, grind arith ∙ ap error_class (sym o.2));
-  }) l)
+  hide_law = program_dressed_law (narrower_form hides l)
 
   -- optional
   pub optional_law : (catch : Bool) → FormLaw env (TurnOutcome inner catch true) names []
       (program_if (not catch) (program_optional s))
   optional_law true = record { by = tt }
-  optional_law false = narrower_form (no_more by_answer) (program_optional_law l)
-    where
-      by_answer : (s t : Situation) (r : Result (Option A) Error)
-          → TurnOutcome inner false true s r t → OptionalEval A inner s r t
-      by_answer s t (Ok (Some v)) o = optional_some o.0
-      by_answer s t (Ok None) (inl o) = absurd (true≢false o.2)
-      by_answer s t (Ok None) (inr o) = rw o.1 (optional_none o.0.2 (stops_at o.0.3))
-      by_answer s t (Err e) (inl o) = optional_err o.0 (goes_on e o.1)
-      by_answer s t (Err e) (inr o) = optional_memory (memory_class e.0 o.0)
+  optional_law false = narrower_form (no_more optional_table) (program_optional_law l)
 
   -- what answers no more than a closure on the list of a repeat without `catch` keeps to its laws
   repeated_form_law : {B : Type 0} {f : Closure (List A) B} {c : ErrorClass} (idle catch : Bool)
@@ -504,52 +530,26 @@ module _ {env : Variables} {A : Type 0} {inner : Outcome A} {names : List Names}
   pub many_law : (catch : Bool)
       → FormLaw env (ManyOutcome inner catch) names [] (repeated_form catch (list_closure A) s)
   many_law catch = repeated_form_law false catch (ManyOutcome inner)
-      (never_refuses (list_closure A) (λ x n. n) _) by_answer
-    where
-      by_answer : (s t : Situation) (r : Result (Vec A) Error) → ManyOutcome inner false s r t
-          → ClosedEval (List A) (Vec A) (RepeatOutcome inner false) (list_closure A) Refused s r t
-      by_answer s t (Ok v) o = closed_yes o refl
-      by_answer s t (Err e) o = closed_err o
+      (never_refuses (list_closure A) (λ x n. n) _) many_table
 
   -- some
   pub some_law : (catch : Bool) (message : List ℕ) → FormLaw env (SomeOutcome inner catch message)
       names [] (repeated_form catch (some_closure A) s)
   some_law catch message = repeated_form_law false catch (λ c. SomeOutcome inner c message)
-      (some_agrees l) by_answer
-    where
-      by_answer : (s t : Situation) (r : Result (Vec A) Error)
-          → SomeOutcome inner false message s r t
-          → ClosedEval (List A) (Vec A) (RepeatOutcome inner false) (some_closure A) Caught s r t
-      by_answer s t (Ok v) o =
-          closed_yes o.0 (refl, λ none. true≢false (sym (ap is_nil none) ∙ o.1))
-      by_answer s t (Err e) (inl o) = closed_err o
-      by_answer s t (Err e) (inr o) = ⊎_elim (λ told. closed_no o.0 refl (ap error_class told))
-          (λ memory. closed_memory o.0 (ap error_class memory)) o.1
+      (some_agrees l) (some_table message)
 
   -- collect
   pub collect_law : {C : Type 0} (catch : Bool) (fills : List A → C → Type 0)
       → FormLaw env (CollectOutcome inner catch fills) names []
       (repeated_form catch (map_closure fills) s)
-  collect_law {C} catch fills = repeated_form_law false catch (λ c. CollectOutcome inner c fills)
-      (never_refuses (map_closure fills) (λ x n. n) _) by_answer
-    where
-      by_answer : (s t : Situation) (r : Result C Error) → CollectOutcome inner false fills s r t
-          → ClosedEval (List A) C (RepeatOutcome inner false) (map_closure fills) Refused s r t
-      by_answer s t (Ok v) o = closed_yes o.1 o.2
-      by_answer s t (Err e) (inl o) = closed_err o
-      by_answer s t (Err e) (inr o) = closed_memory o.1 (memory_class e.0 o.2)
+  collect_law catch fills = repeated_form_law false catch (λ c. CollectOutcome inner c fills)
+      (never_refuses (map_closure fills) (λ x n. n) _) (collect_table fills)
 
   -- count
   pub count_law : FormLaw env (CountOutcome inner) names []
       (repeated_form false (map_closure (λ vs n. n ≡ length vs)) s)
   count_law = repeated_form_law true false (λ c. CountOutcome inner)
-      (never_refuses (map_closure (λ vs n. n ≡ length vs)) (λ x n. n) _) by_answer
-    where
-      by_answer : (s t : Situation) (r : Result ℕ Error) → CountOutcome inner s r t
-          → ClosedEval (List A) ℕ (RepeatOutcome inner true)
-          (map_closure (λ vs n. n ≡ length vs)) Refused s r t
-      by_answer s t (Ok n) o = closed_yes o.1 o.2
-      by_answer s t (Err e) o = closed_err o
+      (never_refuses (map_closure (λ vs n. n ≡ length vs)) (λ x n. n) _) count_table
 
   -- last
   pub program_last_law : FormLaw env (LastOutcome inner) names [] (completed repeated (LastOf A) s)
@@ -559,23 +559,13 @@ module _ {env : Variables} {A : Type 0} {inner : Outcome A} {names : List Names}
   -- what gives a value in place of an inner one, as a closure on nothing does, keeps to its laws
   fallback_form_law : (gives : Gives A) (f : Closure (Unit {0}) A) → Decides f
       → ((v : A) → gives (Ok v) → f.yes tt v)
-      → ((e : Error) → gives (Err e) → (class e ≡ OfMemory) ⊎ (f.no tt × (class e ≡ Caught)))
+      → ((e : Error) → gives (Err e) → (class e ≡ OfMemory)
+      ⊎ (f.no tt × (class e ≡ Caught) × (is_wrong_input e.0 ≡ false)))
       → FormLaw env (FallbackOutcome inner gives) names [] (fallback_form f s)
-  fallback_form_law gives f decides gave refused = narrower_form (no_more by_answer)
+  fallback_form_law gives f decides gave refused =
+      narrower_form (no_more (fallback_table gives f gave refused))
       (completed_law (λ group gap. FallbackValue A group gap f) (λ k q o. o)
       (λ k q group gap l. fallback_field l decides) l)
-    where
-      by_answer : (s t : Situation) (r : Result A Error) → FallbackOutcome inner gives s r t
-          → FallbackEval A inner f s r t
-      by_answer s t (Ok v) (inl o) = fallback_ok o
-      by_answer s t (Ok v) (inr o) =
-          rw o.0.1 (fallback_given o.0.0.2 (caught_class o.0.0.0.0 o.0.0.3) (gave v o.1))
-      by_answer s t (Err e) (inl o) = rw o.1
-          (⊎_elim (λ kept. fallback_err kept.1 (kept_class e.0 kept.2))
-          (λ memory. fallback_memory (memory_class e.0 memory)) o.0)
-      by_answer s t (Err e) (inr o) = rw o.0.1 (⊎_elim (λ memory. fallback_memory memory)
-          (λ told. fallback_no o.0.0.2 (caught_class o.0.0.0.0 o.0.0.3) told.0 told.1)
-          (refused e o.1))
 
   -- a kept value
   pub fallback_law : (clones : A → A → Type 0) (kept : A)
@@ -593,4 +583,4 @@ module _ {env : Variables} {A : Type 0} {inner : Outcome A} {names : List Names}
   fallback_with_law answers shown decides =
       fallback_form_law (GivesAnswer answers shown) (answer_closure answers) decides
       (λ v g. g) (λ e g. ⊎_elim (λ memory. inl (ap error_class memory))
-      (λ told. inr ((g.0, g.1), ap error_class told.1)) g.2)
+      (λ told. inr ((g.0, g.1), ap error_class told.1, ap is_wrong_input told.1)) g.2)

@@ -1,19 +1,12 @@
 -- Of each combinator: its values say what is told of them, where those of its inner parsers do.
 use Rattle.std.proofs.Common.{append-nil, arith, false, subst, Bool, List, refl, true, ◌++◌, None}
-use Rattle.std.proofs.Common.{Some, not, sym, ◌∙◌, ◌∷◌, ◌≡◌, [], ap, ℕ}
-use Rattle.bpaf_doc.specs.Names.{Names}
-use Rattle.bpaf_laws.specs.Command.{opening_words, Called}
 use Rattle.bpaf_exact.proofs.Names.{apart_of_names, mine_of_others, others_unkeyed, second_within}
 use Rattle.bpaf_exact.proofs.Names.{first_within, mine_within, none_behind, others_both, apart_none}
 use Rattle.bpaf_exact.proofs.Names.{others_none, others_rest, mine_keyed, others_fit, mine_rest}
 use Rattle.bpaf_exact.proofs.Names.{both_fits, taken_own, mine_none, all_front, all_mine, each_own}
-use Rattle.bpaf_exact.proofs.Names.{rest_fit, own_fit, no_fits, cut_fit}
-use Rattle.bpaf_exact.proofs.Says.{fallback_by, optional_by, front_says, whole_says, list_says}
 use Rattle.bpaf_exact.specs.Flat.{FieldsReading, FallbackValue, OptionalValue, both_reading, ByName}
 use Rattle.bpaf_exact.specs.Flat.{SingleValue, ClosedValue, FieldKind, repeated, OwnList, Closure}
-use Rattle.bpaf_exact.specs.Flat.{Groups, gap_of, LastOf, front, back, keys, Gap}
 use Rattle.bpaf_exact.specs.Pieces.{are_all_apart, LinePiece, no_roles, either, others, Roles, Owns}
-use Rattle.bpaf_exact.specs.Pieces.{Cells, Cut}
 use Rattle.bpaf_exact.specs.ProgramForm.{OptionalCommands, program_optional, before_commands}
 use Rattle.bpaf_exact.specs.ProgramForm.{program_command, program_dressed, product_reading, single}
 use Rattle.bpaf_exact.specs.ProgramForm.{program_choice, program_closed, product_roles, ProgramForm}
@@ -21,13 +14,19 @@ use Rattle.bpaf_exact.specs.ProgramForm.{program_alone, program_field, program_v
 use Rattle.bpaf_exact.specs.ProgramForm.{last_reading, CommandValue, program_both, choice_only}
 use Rattle.bpaf_exact.specs.ProgramForm.{ChoiceValue, program_con, whole_value, alternative}
 use Rattle.bpaf_exact.specs.ProgramForm.{CellsValue, may_follow, no_program, program_if, completed}
-use Rattle.bpaf_exact.specs.ProgramForm.{commands}
 use Rattle.bpaf_exact.specs.Says.{FieldThenSays, repeated_kind, FallbackSays, OptionalSays, BothSay}
-use Rattle.bpaf_exact.specs.Says.{RepeatSays, scope_said, EitherSays, FieldsSaid, RecordSays, keyed}
+use Rattle.bpaf_exact.specs.Says.{RepeatSays, EitherSays, FieldsSaid, RecordSays, keyed}
 use Rattle.bpaf_exact.specs.Says.{AloneSays, FieldsSay, FrontSays, form_kind, FormSays, LastSays}
-use Rattle.bpaf_exact.specs.Says.{MadeSays, SaidKind, of_kind, AllOwn, IsSaid, OwnBy, Said}
+use Rattle.bpaf_exact.specs.Says.{MadeSays, SaidKind, of_kind, AllOwn, IsSaid, OwnBy, Said, Says}
+use Rattle.std.proofs.Common.{Some, not, sym, ◌∙◌, ◌∷◌, ◌≡◌, [], ap, ℕ}
+use Rattle.bpaf_doc.specs.Names.{Names}
+use Rattle.bpaf_laws.specs.Command.{opening_words, Called}
+use Rattle.bpaf_exact.proofs.Says.{fallback_by, optional_by, front_says, whole_says, list_says}
+use Rattle.bpaf_exact.proofs.Names.{rest_fit, own_fit, no_fits, cut_fit}
 use Rattle.bpaf_exact.proofs.OwnedKeys.{whole_owns, OwnsKeys}
-use Rattle.bpaf_exact.specs.{ProgramForm.complete, ProgramForm.product, Pieces.mine, Says.Says}
+use Rattle.bpaf_exact.specs.ProgramForm.{commands, complete, product, part, after_parts, or_part}
+use Rattle.bpaf_exact.specs.Flat.{Groups, gap_of, LastOf, front, back, keys, Gap}
+use Rattle.bpaf_exact.specs.{Pieces.Cells, Pieces.Cut, Pieces.mine, Says.scope_told, Parts.PartForm}
 
 -- where a test holds
 if_says : {T : Type 0} (b : Bool) {s : ProgramForm T} {kind : SaidKind} {names : List Names}
@@ -150,6 +149,8 @@ field_says {s = product wide false q fields} own h = record { by = h.by }
 field_says {s = complete wide k q value} own h = h
 field_says {s = commands optional value} own h = h
 field_says {s = before_commands value} own h = h
+field_says {s = part p} own h = record { by = tt }
+field_says {s = after_parts value} own h = record { by = tt }
 field_says {T} {said} own h =
     whole_form_says (λ j. j) (λ k. refl) (SingleValue T) said (whole_says said) h
 
@@ -189,6 +190,8 @@ record_says {T} s {kind} {names} {c} {said} {cells} h = by_form s h.by
     by_form (product wide named q fields) h = grind arith
     by_form (commands optional value) h = h
     by_form (before_commands value) h = h
+    by_form (part p) h = tt
+    by_form (after_parts value) h = tt
     by_form no_program h = tt
 
 -- of a flat record it says so of the pieces that it is read off
@@ -210,18 +213,20 @@ cut_says {T} s {names} {c} {said} {cells} own h =
 pub program_says : {T : Type 0} (s : ProgramForm T) {kind : SaidKind} {names : List Names}
     {c : Bool} {said : Said T} {cells : CellsValue T} → OwnsKeys names s
     → Says names s kind c said cells
-    → IsSaid (program_value s) (scope_said c (product_roles (whole_program s)) said cells)
+    → IsSaid (program_value s) (scope_told (whole_program s) c said cells)
 program_says {T} s {names} {c} {said} {cells} own h =
     by_whole (whole_program s) (whole_owns s own) c (record_says s h)
   where
     by_whole : (w : ProgramForm T) → OwnsKeys names w → (c : Bool) → WholeSays names w c said cells
-        → IsSaid (whole_value w) (scope_said c (product_roles w) said cells)
+        → IsSaid (whole_value w) (scope_told w c said cells)
     by_whole (product wide named q fields) own c says = rw says.0 (λ cs v read. record {
       cut_into = read.cut_into;
       cut = read.cut;
       told = says.1 read.cut_into v (cut_fit q names own.by read.cut) read.read;
     })
     by_whole (before_commands value) own c says = rw says.0 says.1
+    by_whole (part p) own c says = λ cs v m. m
+    by_whole (after_parts value) own c says = λ cs v m. m
     by_whole _ own c says = λ cs v m. absurd m
 
 -- a command
@@ -230,7 +235,7 @@ pub program_command_says : {T : Type 0} {s : ProgramForm T} {kind : SaidKind} {n
     → OwnsKeys names s → Says names s kind c said cells
     → Says names (program_command adjacent apart called s) (of_kind ByName) true (λ os v. ⊥)
     (CommandValue T (opening_words called)
-    (scope_said c (product_roles (whole_program s)) said cells))
+    (scope_told (whole_program s) c said cells))
 program_command_says adjacent apart called own h = grind (arith, if_says, program_says)
 
 -- Choices.
@@ -248,6 +253,12 @@ pub program_choice_says : {T : Type 0} {s t : ProgramForm T} {j k : SaidKind} {a
     → Says (own ++ others) (program_choice own others words more s t) (of_kind ByName) c
     (EitherSays a b) (ChoiceValue T x y)
 program_choice_says own others words more h g = grind (arith, if_says)
+
+-- what may be a part
+pub or_part_says : {T : Type 0} {s : ProgramForm T} {kind : SaidKind} {names : List Names}
+    {c : Bool} {said : Said T} {cells : CellsValue T} (p : PartForm T)
+    → Says names s kind c said cells → Says names (or_part s p) kind c said cells
+or_part_says p h = grind arith
 
 -- Products.
 
@@ -368,7 +379,23 @@ both_say {own} {behind} {a = complete wide ByName q first} {s = before_commands 
         },
       );
     })
+both_say {own} {behind} {a = complete wide ByName q first} {s = part p} own_keys behind_keys h g =
+    fields_if (are_all_apart own behind) _ (λ on. record { by = tt })
+both_say {own} {behind} {a = complete wide ByName q first} {s = after_parts value} own_keys
+    behind_keys h g = fields_if (are_all_apart own behind) _ (λ on. record { by = tt })
+both_say {own} {behind} {a = part p} {s = product wide named q fields} own_keys behind_keys h g =
+    fields_if (are_all_apart own behind) _ (λ on. record { by = tt })
+both_say {own} {behind} {a = part p} {s = before_commands value} own_keys behind_keys h g =
+    fields_if (are_all_apart own behind) _ (λ on. record { by = tt })
+both_say {own} {behind} {a = part p} {s = after_parts value} own_keys behind_keys h g =
+    fields_if (are_all_apart own behind) _ (λ on. record { by = tt })
 both_say own_keys behind_keys h g = record { by = tt }
+
+-- which may be parts together
+pub or_part_say : {V : Type 0} {s : ProgramForm V} {names : List Names} {c : Bool}
+    {said : FieldsSaid V} {cells : CellsValue V} (p : PartForm V)
+    → FieldsSay names s c said cells → FieldsSay names (or_part s p) c said cells
+or_part_say p h = grind arith
 
 -- what a constructor makes of the values of fields
 pub program_con_says : {A B : Type 0} {names : List Names} {s : ProgramForm A} {c : Bool}

@@ -42,7 +42,7 @@ closed_keeps {env} {A} {B} {inner} {f} c {gave} {refused} l accepts declines wan
 
     by_err : (s t : Situation) (e : Error) → IsWholeIn env s
         → ClosedEval A B inner f c s (Err e) t → refused s (class e) t
-    by_err s t e w (closed_no {x} i n g) = grind arith
+    by_err s t e w (closed_no {x} i n g calm) = grind arith
     by_err s t e w (closed_memory i m) = subst (λ z. refused s z t) (sym m) (wants s t)
     by_err s t e w (closed_err i) = fails s t (class e) (l.err s t e w i)
 
@@ -190,9 +190,9 @@ module _ {env : Variables} {T : Type 0} {inner : Outcome T} {k : FieldKind} {q :
     fallback_refuses : (s t : Situation) (g : Error) → IsWholeIn env s
         → FallbackEval T inner f s (Err g) t → (v : T)
         → FallbackValue T group gap f (front k (pieces q (cells s))) v → class g ≡ OfMemory
-    fallback_refuses s t g w (fallback_no {e} {m} i h n c) v (inl o) =
+    fallback_refuses s t g w (fallback_no {e} {m} i h n c calm) v (inl o) =
         grind (arith, catch_none, not_empty)
-    fallback_refuses s t g w (fallback_no i h n c) v (inr p) = absurd (decides tt v p.2 n)
+    fallback_refuses s t g w (fallback_no i h n c calm) v (inr p) = absurd (decides tt v p.2 n)
     fallback_refuses s t g w (fallback_memory c) v view = c
     fallback_refuses s t g w (fallback_err {m} i n) v (inl o) =
         grind (arith, not_empty, of_front, l.keeps.err s m g w i)

@@ -2,17 +2,17 @@
 -- pieces alone; and what closures, defaults and repeats make of it.
 use Rattle.std.specs.Prelude.{if◌then◌else◌, MatchBool, is_some, Option, length, filter, Result, []}
 use Rattle.std.specs.Prelude.{false, Bool, List, true, zero, None, drop, take, Some, ◌++◌, suc, ◌<◌}
+use Rattle.bpaf_exact.specs.Pieces.{no_roles, WithNext, is_value, Foreign, IsNamed, is_own, pieces}
+use Rattle.bpaf_exact.specs.Pieces.{stands_behind, TakesPieces, word_roles, TakesPiece, LinePiece}
 use Rattle.std.specs.Prelude.{◌∷◌, ◌≡◌, Err, not, ◌⊎◌, Ok, ℕ}
 use Rattle.std.specs.{Option.IsSomeRelated, List.before_first, Global.Vec}
 use Rattle.bpaf_base.specs.declared.arg.Arg.{Arg}
+use Rattle.bpaf_line.specs.Messages.{is_memory, can_catch, is_wrong_input}
 use Rattle.bpaf_line.specs.Situation.{open_count, Situation, is_taken}
 use Rattle.bpaf_line.specs.{declared.error.Message.TheVariants.Missing, declared.error.Error.Error}
-use Rattle.bpaf_line.specs.{Messages.is_memory, Messages.can_catch, declared.error.Message.Message}
-use Rattle.bpaf_line.specs.Taking.{open_item}
+use Rattle.bpaf_line.specs.{declared.error.Message.Message, Taking.open_item}
 use Rattle.bpaf_laws.specs.Combinators.{ListOutcome, UntilFault, UntilRest}
 use Rattle.bpaf_laws.specs.Reading.{Outcome}
-use Rattle.bpaf_exact.specs.Pieces.{no_roles, WithNext, is_value, Foreign, IsNamed, is_own, pieces}
-use Rattle.bpaf_exact.specs.Pieces.{stands_behind, TakesPieces, word_roles, TakesPiece, LinePiece}
 use Rattle.bpaf_exact.specs.Pieces.{Cells, Apart, Roles, Alone, One, Cut, Two}
 
 -- the classes of refusals
@@ -376,7 +376,7 @@ pub data ClosedEval (A B : Type 0) (inner : Outcome A) (f : Closure A B) (c : Er
   closed_yes : {x : A} {v : B} {t : Situation} → inner s (Ok x) t → f.yes x v
       → ClosedEval A B inner f c s (Ok v) t
   closed_no : {x : A} {e : Error} {t : Situation} → inner s (Ok x) t → f.no x → class e ≡ c
-      → ClosedEval A B inner f c s (Err e) t
+      → is_wrong_input e.0 ≡ false → ClosedEval A B inner f c s (Err e) t
   closed_memory : {x : A} {e : Error} {t : Situation} → inner s (Ok x) t → class e ≡ OfMemory
       → ClosedEval A B inner f c s (Err e) t
   closed_err : {e : Error} {t : Situation} → inner s (Err e) t → ClosedEval A B inner f c s
@@ -413,7 +413,7 @@ pub data FallbackEval (T : Type 0) (inner : Outcome T) (f : Closure (Unit {0}) T
   fallback_given : {v : T} {e : Error} {m : Situation} → inner s (Err e) m → CanCatch (class e)
       → f.yes tt v → FallbackEval T inner f s (Ok v) s
   fallback_no : {e g : Error} {m : Situation} → inner s (Err e) m → CanCatch (class e) → f.no tt
-      → class g ≡ Caught → FallbackEval T inner f s (Err g) s
+      → class g ≡ Caught → is_wrong_input g.0 ≡ false → FallbackEval T inner f s (Err g) s
   fallback_memory : {e : Error} → class e ≡ OfMemory → FallbackEval T inner f s (Err e) s
   fallback_err : {e : Error} {m : Situation} → inner s (Err e) m → (CanCatch (class e) → ⊥)
       → FallbackEval T inner f s (Err e) s

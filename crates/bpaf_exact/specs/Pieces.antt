@@ -1,11 +1,10 @@
 -- How a flat record sees a line: places cut into pieces, which fields share out by their names.
 use Rattle.std.specs.Prelude.{Bool, List, Option, Some, [], false, filter, if◌then◌else◌, true, ◌≡◌}
-use Rattle.std.specs.Prelude.{None, not, ◌∷◌, ◌&&◌}
-use Rattle.std.specs.{Option.is_some, List.list_all, List.list_any}
-use Rattle.bpaf_base.specs.declared.arg.Arg.TheVariants.{PosWord}
 use Rattle.bpaf_base.specs.Items.{is_positional, value_text, is_among, is_text_among, is_key_of}
+use Rattle.std.specs.{Prelude.None, Prelude.not, Prelude.◌∷◌, Prelude.◌&&◌, Option.is_some}
+use Rattle.std.specs.List.{list_all, list_any}
+use Rattle.bpaf_base.specs.{declared.arg.Arg.TheVariants.PosWord, declared.arg.Arg.Arg}
 use Rattle.bpaf_base.specs.Items.{is_key}
-use Rattle.bpaf_base.specs.declared.arg.Arg.{Arg}
 use Rattle.bpaf_doc.specs.Names.{Names}
 
 -- the places of a line, each with the item that is present there, if one is

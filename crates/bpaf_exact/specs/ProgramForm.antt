@@ -22,6 +22,8 @@ use Rattle.bpaf_exact.specs.Flat.{FieldsLaw, SingleLaw, FieldLaw, AgreesOn, Keep
 use Rattle.bpaf_exact.specs.Flat.{portion, FrontOf, Closure, OneWord, Refused, ByName, Groups, left}
 use Rattle.bpaf_exact.specs.Flat.{both_reading, NonePresent, first_cells, SingleValue, ClosedValue}
 use Rattle.bpaf_exact.specs.Flat.{gap_of, Caught, keys, Gap}
+use Rattle.bpaf_exact.specs.Parts.{Part, PartAlone, PartForm, PartFormAgrees, PartLaw, PartThen}
+use Rattle.bpaf_exact.specs.Parts.{key_part, last_key_part, some_part}
 use Rattle.bpaf_exact.specs.Pieces.{WithNext, roles_of, is_value, IsNamed, pieces, either}
 
 -- which values some cells have
@@ -229,6 +231,10 @@ pub data ProgramForm (T : Type 0) : Type 1 where
   commands : (optional : Bool) → CellsValue T → ProgramForm T
   -- a product of named fields, and then commands
   before_commands : CellsValue T → ProgramForm T
+  -- a named part
+  part : Part T → ProgramForm T
+  -- named parts, and then words or commands
+  after_parts : CellsValue T → ProgramForm T
 
 -- fields that are all named keep to the laws of a named field together
 abbrev pub NamedLaw : {T : Type 0} → Variables → Bool → Outcome T → Roles
@@ -269,6 +275,10 @@ LawOf {T = T} variables outcome names words (commands true value) =
     EndLaw variables T outcome names value
 LawOf {T = T} variables outcome names words (before_commands value) =
     EndLaw variables T outcome names value
+LawOf {T = T} variables outcome names words (part p) =
+    PartLaw variables T outcome p × Owns p.roles names
+LawOf {T = T} variables outcome names words (after_parts value) =
+    EndLaw variables T outcome names value
 
 -- such an outcome keeps to the laws of its form
 pub record FormLaw {T : Type 0} (variables : Variables) (outcome : Outcome T) (names : List Names)
@@ -281,9 +291,17 @@ Agrees f (alternative wide q value) = (o : LinePiece) → AgreesOn (value o) f
 Agrees f (single wide k q group gap) =
     ((os rest : List LinePiece) → AgreesOn (λ v. group os v rest) f) × AgreesOn gap.absent f
 Agrees f (complete wide k q value) = (os : List LinePiece) → AgreesOn (value os) f
-Agrees f (product wide named q fields) = (os : List LinePiece) → AgreesOn (fields.value os) f
 Agrees f (commands optional value) = (cs : Cells) → AgreesOn (value cs) f
+Agrees f (before_commands value) = (cs : Cells) → AgreesOn (value cs) f
+Agrees f (after_parts value) = (cs : Cells) → AgreesOn (value cs) f
 Agrees f _ = Unit {0}
+
+-- that of a closure round a parser with such a form, which may be such a part: where a product or a
+-- part is what it is round, it depends on its entries
+abbrev pub AgreesRound : {A B : Type 0} → Closure A B → ProgramForm A → PartForm A → Type 0
+AgreesRound f (product wide named q fields) form = PartFormAgrees f form
+AgreesRound f (part p) form = PartFormAgrees f form
+AgreesRound f s form = Agrees f s
 
 -- a form where a test holds
 abbrev pub program_if : {T : Type 0} → Bool → ProgramForm T → ProgramForm T
@@ -297,12 +315,13 @@ program_closed f (single wide k q group gap) =
     single wide k q (λ os v rest. ClosedValue (λ x a. group x a rest) f os v) (closed_gap gap f)
 program_closed f (complete wide k q value) = complete wide k q (ClosedValue value f)
 program_closed f (commands optional value) = commands optional (ClosedValue value f)
+program_closed f (before_commands value) = before_commands (ClosedValue value f)
+program_closed f (after_parts value) = after_parts (ClosedValue value f)
 program_closed f _ = no_program
 
 -- another look; a record with such a look round it is a wide one
 abbrev pub program_dressed : {T : Type 0} → ProgramForm T → ProgramForm T
 program_dressed (product wide named q fields) = product true named q fields
-program_dressed (before_commands value) = no_program
 program_dressed s = s
 
 -- what a repeat or default makes of a field without one: a field of a kind, with such values
@@ -337,6 +356,7 @@ program_choice own others words more _ _ = no_program
 abbrev pub choice_only : {T : Type 0} → ProgramForm T → ProgramForm T
 choice_only (alternative wide q value) = alternative wide q value
 choice_only (commands false value) = commands false value
+choice_only (part p) = part p
 choice_only _ = no_program
 
 -- a field of a product; a product of fields is a wide one, and where all are named one field
@@ -346,6 +366,8 @@ program_field (product wide true q fields) = complete true ByName q fields.value
 program_field (product wide false q fields) = product true false q fields
 program_field (commands optional value) = commands optional value
 program_field (before_commands value) = before_commands value
+program_field (part p) = part p
+program_field (after_parts value) = after_parts value
 program_field {T = T} s = completed (λ k. k) (SingleValue T) s
 
 -- keys may stand after a field: those that are apart from its own; after a positional field none
@@ -367,7 +389,32 @@ program_both own others (complete wide k q first) (product other named r rest) =
     (either (keys k q) r) (both_reading k q first rest))
 program_both {A = A} {B = B} own others (complete wide ByName q first) (before_commands rest) =
     program_if (are_all_apart own others) (before_commands (FieldThen A B q first rest))
+program_both {A = A} {B = B} own others (complete wide ByName q first) (part p) =
+    program_if (are_all_apart own others) (after_parts (FieldThen A B q first (PartAlone p)))
+program_both {A = A} {B = B} own others (complete wide ByName q first) (after_parts rest) =
+    program_if (are_all_apart own others) (after_parts (FieldThen A B q first rest))
+program_both {B = B} own others (part p) (product wide named r rest) =
+    program_if (are_all_apart own others) (after_parts (PartThen p (ReadOff B r rest.value)))
+program_both own others (part p) (before_commands rest) =
+    program_if (are_all_apart own others) (after_parts (PartThen p rest))
+program_both own others (part p) (after_parts rest) =
+    program_if (are_all_apart own others) (after_parts (PartThen p rest))
 program_both own others _ _ = no_program
+
+-- a form is a named part too
+abbrev pub has_part : {T : Type 0} → ProgramForm T → Bool
+has_part (alternative wide q value) = true
+has_part (single wide k q group gap) = is_named k
+has_part (complete wide k q value) = is_named k
+has_part (product wide named q fields) = named
+has_part (part p) = true
+has_part _ = false
+
+-- where the flat form isn't a program, a named part if it is one
+abbrev pub or_part : {T : Type 0} → ProgramForm T → PartForm T → ProgramForm T
+or_part no_program (some_part p) = part p
+or_part (after_parts value) (some_part p) = part p
+or_part s _ = s
 
 -- the last field: a field, a product with words, or what ends in commands
 abbrev pub program_alone : {T : Type 0} → ProgramForm T → ProgramForm T
@@ -376,6 +423,8 @@ program_alone (complete wide k q value) =
 program_alone (product wide false q fields) = product wide false q fields
 program_alone (commands optional value) = before_commands value
 program_alone (before_commands value) = before_commands value
+program_alone (part p) = part p
+program_alone (after_parts value) = after_parts value
 program_alone _ = no_program
 
 -- the constructor of a product
@@ -383,6 +432,7 @@ abbrev pub program_con : {A B : Type 0} → Closure A B → ProgramForm A → Pr
 program_con f (product wide named q fields) =
     product wide named q (record { value = ClosedValue fields.value f; each = fields.each })
 program_con f (before_commands value) = before_commands (ClosedValue value f)
+program_con f (after_parts value) = after_parts (ClosedValue value f)
 program_con f _ = no_program
 
 -- a whole program: a product of fields, or one that ends in commands
@@ -394,6 +444,8 @@ whole_program s = program_alone (program_field s)
 abbrev pub whole_value : {T : Type 0} → ProgramForm T → CellsValue T
 whole_value {T = T} (product wide named q fields) = ReadOff T q fields.value
 whole_value (before_commands value) = value
+whole_value (part p) = PartAlone p
+whole_value (after_parts value) = value
 whole_value _ = λ cs v. ⊥
 
 -- the values of a program
@@ -493,6 +545,26 @@ argument_field means argument variables =
     (roles_of (is_argument_key argument.named.names argument.adjacent) WithNext)
     (ArgumentValue means) (argument_group means argument.last)
     (gap_of means (first_set variables argument.named.envs))
+
+-- a flag as a named part
+abbrev pub flag_part_form : {T : Type 0} → (T → T → Type 0) → Key → T → Option T → Variables
+    → PartForm T
+flag_part_form clones key present absent variables =
+    some_part (key_part (flag_roles key.names) (FlagValue (clones present))
+    (gap_of clones (value_without_key present absent (first_set variables key.envs))))
+
+-- an argument, by whether its last value counts
+abbrev pub argument_part : {T : Type 0} → (last : Bool) → (List ℕ → T → Type 0) → Roles → Gap T
+    → Part T
+argument_part false means q gap = key_part q (ArgumentValue means) gap
+argument_part true means q gap = last_key_part means q gap
+
+-- as a named part
+abbrev pub argument_part_form : {T : Type 0} → (List ℕ → T → Type 0) → KeyWithValue → Variables
+    → PartForm T
+argument_part_form means argument variables = some_part (argument_part argument.last means
+    (argument_roles argument.adjacent argument.named.names)
+    (gap_of means (first_set variables argument.named.envs)))
 
 -- a positional word on an accepted side, which stops before one behind `--` where that isn't one;
 -- where not both are it is wide

@@ -9,6 +9,8 @@ use Rattle.bpaf_exact.specs.Flat.{FieldKind, repeated, IsLastOf, Closure, ByName
 use Rattle.bpaf_exact.specs.Flat.{back, Own}
 use Rattle.bpaf_exact.specs.ProgramForm.{before_commands, ProgramForm, alternative, no_program}
 use Rattle.bpaf_exact.specs.ProgramForm.{CellsValue, FieldThen, complete, commands, product, single}
+use Rattle.bpaf_exact.specs.ProgramForm.{part, after_parts, product_roles}
+use Rattle.bpaf_exact.specs.Parts.{Part, PartForm, PartAlone, Turn, some_part, no_part}
 
 -- The pieces of a field's own.
 
@@ -183,6 +185,19 @@ abbrev pub scope_said : {T : Type 0} → (in_cells : Bool) → Roles → Said T 
 scope_said true roles said cells = cells
 scope_said false roles said cells = CutSays roles said
 
+-- what it says by the form of the whole program: with named parts what its value is
+abbrev pub scope_told : {T : Type 0} → ProgramForm T → (in_cells : Bool) → Said T → CellsValue T
+    → CellsValue T
+scope_told (part p) in_cells said cells = PartAlone p
+scope_told (after_parts value) in_cells said cells = value
+scope_told s in_cells said cells = scope_said in_cells (product_roles s) said cells
+
+-- whether that is said of cells
+abbrev pub told_in_cells : {T : Type 0} → ProgramForm T → (in_cells : Bool) → Bool
+told_in_cells (part p) in_cells = true
+told_in_cells (after_parts value) in_cells = true
+told_in_cells s in_cells = in_cells
+
 -- a named field before others: it says so of its own pieces, and they do of what is left
 pub record FieldThenSays {A B : Type 0} (names : List Names) (said : Said A) (rest : CellsValue B)
     (cs : Cells) (v : A × B) : Type 0 where
@@ -229,6 +244,8 @@ FormSays names (commands optional value) kind in_cells said cells =
     (in_cells ≡ true) × IsSaid value cells
 FormSays names (before_commands value) kind in_cells said cells =
     (in_cells ≡ true) × IsSaid value cells
+FormSays names (part p) kind in_cells said cells = Unit {0}
+FormSays names (after_parts value) kind in_cells said cells = Unit {0}
 
 -- a value of such a parser does
 pub record Says {T : Type 0} (names : List Names) (form : ProgramForm T) (kind : SaidKind)
@@ -245,6 +262,8 @@ FieldsFormSays {V = V} names (product wide named r fields) in_cells said cells =
 FieldsFormSays names (before_commands value) in_cells said cells =
     (in_cells ≡ true) × IsSaid value cells
 FieldsFormSays names no_program in_cells said cells = Unit {0}
+FieldsFormSays names (part p) in_cells said cells = Unit {0}
+FieldsFormSays names (after_parts value) in_cells said cells = Unit {0}
 FieldsFormSays names _ in_cells said cells = ⊥
 
 -- the values of fields do
@@ -261,6 +280,11 @@ abbrev pub OneGroup : {T X : Type 0} → (T → X) → Groups T → Type 0
 OneGroup {T = T} see group = (os rest others : List LinePiece) (v w : T) → group os v rest
     → group os w others → (see v ≡ see w) × (rest ≡ others)
 
+-- all values of a turn of a part on the same cells look alike, and the same is left
+abbrev pub PartOneView : {T X : Type 0} → (T → X) → Part T → Type 0
+PartOneView {T = T} see p = (cs ds es : Cells) (v w : T) → Turn p cs v ds → Turn p cs w es
+    → (see v ≡ see w) × (ds ≡ es)
+
 -- the values of the same pieces look alike, and those of commands on the same cells
 abbrev pub HasOneView : {T X : Type 0} → (T → X) → ProgramForm T → Type 0
 HasOneView see no_program = Unit {0}
@@ -270,6 +294,13 @@ HasOneView see (complete wide k q value) = (os : List LinePiece) → Alike see (
 HasOneView see (product wide named q fields) = (os : List LinePiece) → Alike see (fields.value os)
 HasOneView see (commands optional value) = (cs : Cells) → Alike see (value cs)
 HasOneView see (before_commands value) = (cs : Cells) → Alike see (value cs)
+HasOneView see (part p) = PartOneView see p
+HasOneView see (after_parts value) = (cs : Cells) → Alike see (value cs)
+
+-- what may be a part has values that look alike
+abbrev pub PartFormOneView : {T X : Type 0} → (T → X) → PartForm T → Type 0
+PartFormOneView see no_part = Unit {0}
+PartFormOneView see (some_part p) = PartOneView see p
 
 -- A closure that can't tell apart what looks alike: it accepts both or none, with answers alike.
 pub record Respects (A B X Y : Type 0) (see : A → X) (look : B → Y) (f : Closure A B) : Type 0 where

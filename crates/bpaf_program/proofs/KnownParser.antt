@@ -1,50 +1,53 @@
 -- The parsers of a program, and their fields, are known where what they are made of is.
 use Rattle.std.proofs.Common.{IsUtf8, Result, Option, false, arith, List, refl, true, Bool, Some, ℕ}
 use Rattle.std.proofs.Common.{All, ap₂, ◌∙◌, ◌≡◌, Err, inl, inr, ap, Ok, None, IfOk, [], ◌∷◌}
-use Rattle.std.proofs.Common.{⊎_elim}
-use Rattle.std.specs.{Result.IfErr}
 use Rattle.bpaf_grammar.specs.Grammar.{closed, cloned, describes_of, fallback, flag, many, mapped}
 use Rattle.bpaf_grammar.specs.Grammar.{optional, outcome_of, product, repeat, FieldsGrammar}
 use Rattle.bpaf_grammar.specs.Grammar.{argument, Grammar, choice, alone, both, word, command}
+use Rattle.bpaf_exact.proofs.PartForms.{both_part_law, choice_form_part_law, con_part_law}
+use Rattle.bpaf_exact.proofs.PartForms.{fallback_part_law, guard_part_law, many_part_law}
+use Rattle.std.proofs.Common.{sym, true≢false, ⊎_elim}
+use Rattle.std.specs.Result.{IfErr}
+use Rattle.bpaf_grammar.specs.{Words.Answers, Words.Deals, Words.names_of, Laws.lawful_of}
 use Rattle.bpaf_grammar.specs.Grammar.{guarded, keys_of}
-use Rattle.bpaf_grammar.specs.{Laws.lawful_of, Words.Answers, Words.Deals, Words.names_of}
-use Rattle.bpaf_record.proofs.{FormLaws.law_of, LookAlike.IsSeen, LookAlike.agrees_seen}
-use Rattle.bpaf_record.specs.Program.{agrees_of, program_form, are_unusual}
+use Rattle.bpaf_record.proofs.LookAlike.{IsSeen, part_seen, view_seen}
+use Rattle.bpaf_record.proofs.FormLaws.{law_of, part_law_of}
+use Rattle.bpaf_exact.proofs.PartForms.{map_part_law, narrower_part_form, optional_form_part_law}
+use Rattle.bpaf_exact.proofs.ProgramForm.{or_part_law}
+use Rattle.bpaf_record.specs.Program.{agrees_of, part_form, program_form, are_unusual}
 use Rattle.bpaf.specs.Asked.{HandsOn, RunShows, IfShown, Showing}
 use Rattle.bpaf_doc.specs.{declared.doc.Piece.Piece, Shape.Shape, Names.Names}
 use Rattle.bpaf_words.specs.{Arguments.Given, Line.Known}
 use Rattle.bpaf_text.specs.Named.{KeyWithValue, key_named, Named}
-use Rattle.bpaf_line.specs.{declared.failure.ParseFailure.ParseFailure}
+use Rattle.bpaf_line.specs.declared.failure.ParseFailure.{ParseFailure}
 use Rattle.bpaf_line.specs.declared.failure.ParseFailure.TheVariants as failure
 use Rattle.bpaf_laws.specs.Combinators.{MapOutcome, EachReads, ListReads, MapReads, OptionalReads}
-use Rattle.bpaf_laws.specs.Combinators.{GuardOutcome, PureReads}
-use Rattle.bpaf_laws.specs.Command.{Called, CommandReads}
-use Rattle.bpaf_laws.specs.{Command.opening_words, Laws.joined_shorts}
-use Rattle.bpaf_laws.specs.Choice.{ChoiceReads}
-use Rattle.bpaf_laws.specs.Product.{BothReads, ProductOutcome}
-use Rattle.bpaf_laws.specs.Reading.{Outcome, Readings}
-use Rattle.bpaf_laws.proofs.Keeping.{fallback_kept}
-use Rattle.bpaf_core.specs.declared.commands.ParseCommand.{ParseCommand}
-use Rattle.bpaf_grammar.specs.declared.position.Position.{Position}
-use Rattle.bpaf_grammar.specs.Command.{EitherCommandReads}
-use Rattle.bpaf.specs.Help.{shown_help}
-use Rattle.bpaf.specs.{Run.IsDealtOut, Info.RunInfo, Info.plain_info, Run.RunsWords}
 use Rattle.bpaf.proofs.Asked.{positional_hands_on, argument_hands_on, optional_hands_on, hands_also}
 use Rattle.bpaf.proofs.Asked.{default_hands_on, product_hands_on, asked_at_also, both_hands_on}
-use Rattle.bpaf.proofs.Asked.{flag_hands_on, many_hands_on, answer_shows, IsAlsoShown, words_also}
-use Rattle.bpaf.proofs.HandsOn.{command_hands_on, choice_hands_on, behind_also}
 use Rattle.bpaf_exact.proofs.ProgramForm.{program_choice_law, program_alone_law, program_field_law}
-use Rattle.bpaf_exact.proofs.ProgramForm.{program_both_law, program_con_law, narrower_form, no_more}
-use Rattle.bpaf_exact.proofs.ProgramForm.{AllowsNoMore, fallback_law, optional_law, many_law}
-use Rattle.bpaf_exact.proofs.{ProgramForm.guard_law, ProgramForm.map_law}
-use Rattle.bpaf_record.specs.{Commands.either_command_law}
-use Rattle.bpaf_record.specs.Record.{AnswersAsProgram}
+use Rattle.bpaf_exact.proofs.ProgramForm.{program_both_law, program_con_law, narrower_form}
 use Rattle.bpaf_program.specs.KnownParser.{AreKnownFields, known_optional, IsKnownParser, IsAlso}
 use Rattle.bpaf_program.specs.KnownParser.{program_names, known_command, known_default, inner_pages}
 use Rattle.bpaf_program.specs.KnownParser.{known_switch, IsDealtBy, IsExactFor, known_many}
-use Rattle.bpaf_program.specs.KnownParser.{known_con, known_guard, known_map, IsPageOf}
-use Rattle.bpaf_program.proofs.LookAlike.{guard_seen}
-use Rattle.bpaf_program.specs.{KnownParser.IsValueBy, Fields.IsPlainCommand, KnownParser.IsKept}
+use Rattle.bpaf_program.specs.KnownParser.{known_con, known_guard, known_map, IsPageOf, IsValueBy}
+use Rattle.bpaf_laws.specs.Command.{Called, CommandReads, opening_words}
+use Rattle.bpaf_laws.specs.{Combinators.GuardOutcome, Combinators.PureReads, Laws.joined_shorts}
+use Rattle.bpaf_laws.specs.{Product.BothReads, Product.ProductOutcome, Choice.ChoiceReads}
+use Rattle.bpaf_laws.specs.Reading.{Outcome, Readings}
+use Rattle.bpaf_laws.proofs.Keeping.{fallback_kept}
+use Rattle.bpaf_core.specs.declared.commands.ParseCommand.{ParseCommand}
+use Rattle.bpaf_grammar.specs.{declared.position.Position.Position, Command.EitherCommandReads}
+use Rattle.bpaf.specs.{Run.IsDealtOut, Run.RunsWords, Info.RunInfo, Info.plain_info}
+use Rattle.bpaf.specs.Help.{shown_help}
+use Rattle.bpaf.proofs.Asked.{flag_hands_on, many_hands_on, answer_shows, IsAlsoShown, words_also}
+use Rattle.bpaf.proofs.HandsOn.{command_hands_on, choice_hands_on, behind_also}
+use Rattle.bpaf_exact.proofs.ProgramForm.{fallback_law, optional_law, many_law, guard_law, map_law}
+use Rattle.bpaf_exact.proofs.{Tables.AllowsNoMore, Tables.no_more, PartView.part_view_agrees}
+use Rattle.bpaf_exact.proofs.OneView.{view_agrees}
+use Rattle.bpaf_record.specs.{Commands.either_command_law, Record.AnswersAsProgram}
+use Rattle.bpaf_program.specs.{Fields.IsPlainCommand, KnownParser.IsKept}
+use Rattle.bpaf_exact.specs.Parts.{PartFormLaw, of_part, part_closed}
+use Rattle.bpaf_exact.specs.Flat.{Variables, guard_closure}
 
 -- what is dealt out to the one is dealt out to the other
 pub also_dealt : {T : Type 0} {reads wanted : Readings T} → IsAlso reads wanted
@@ -161,6 +164,7 @@ module _ {T : Type 0} (g : Grammar T) (premise : agrees_of g)
   same_known : IsKnownParser g g
   same_known = record {
     law = λ env. law_of g premise env;
+    part = λ env. part_law_of g premise env;
     also = λ context share v read. read;
     shows = λ shape shown. shown;
     shown = refl;
@@ -178,6 +182,7 @@ called_known {adjacent = adjacent} {called} {info} {help} known own adjacent_is 
     help_is plain {one} is = rw (help_is, called_is, adjacent_is, info_is) (record {
       law = λ env. either_command_law (describes_of one) info called _ adjacent
           (are_unusual (keys_of known false) info) (is.law env);
+      part = λ env. record { by = tt };
       also = command_also is.also adjacent (opening_words called);
       shows = λ shape shown. (
         shown.0,
@@ -205,7 +210,9 @@ pub choice_known : {T : Type 0} (first second : Grammar T) {one two : Grammar T}
     → IsKnownParser first one → IsKnownParser second two
     → IsKnownParser (choice first second) (choice one two)
 choice_known first second these those = record {
-  law = λ env. program_choice_law (these.law env) (those.law env);
+  law = λ env. or_part_law _ _ (program_choice_law (these.law env) (those.law env))
+      (choice_form_part_law (these.part env) (those.part env));
+  part = λ env. choice_form_part_law (these.part env) (those.part env);
   also = choice_also these.also those.also;
   shows = λ shape shown.
       (shown.0, shown.1, these.shows shown.0 shown.2, those.shows shown.1 shown.3, shown.4);
@@ -221,7 +228,10 @@ pub map_known : {A B : Type 0} (make : A → B) (known : Grammar A) {one : Gramm
     → IsKnownParser (known_map make known) (closed (mapped answers) one)
 map_known make known {one} inner {answers} only = record {
   law = λ env. narrower_form (map_within (outcome_of one) only)
-      (map_law (inner.law env) (λ x v. v ≡ make x));
+      (or_part_law _ _ (map_law (inner.law env) (λ x v. v ≡ make x))
+      (map_part_law (inner.part env) (λ x v. v ≡ make x)));
+  part = λ env. narrower_part_form (map_within (outcome_of one) only)
+      (map_part_law (inner.part env) (λ x v. v ≡ make x));
   also = made_also inner.also only;
   shows = inner.shows;
   shown = inner.shown;
@@ -234,24 +244,41 @@ pub guard_known : {T X : Type 0} {see : T → X} (check : X → Bool) {message :
     → {checks : T → Bool → Type 0} → ((x : T) (b : Bool) → checks x b → b ≡ check (see x))
     → {text : List ℕ} → text ≡ message
     → IsKnownParser (known_guard see check message known) (closed (guarded checks text) one)
-guard_known {see = see} check {message} {known} {one} seen inner only text_is = rw text_is (record {
-  law = λ env. narrower_form (guard_within (outcome_of one) message only) (guard_law (inner.law env)
-      (λ x b. b ≡ check (see x)) message
-      ((agrees_seen {g = known_guard see check message known} (guard_seen seen check)).1 env));
-  also = made_also inner.also (λ x v made. (made.0, only x true made.1));
-  shows = inner.shows;
-  shown = inner.shown;
-  hands = record {
-    all = λ s e t doc full o is. ⊎_elim (λ refused. inner.hands.all s e t doc full refused is)
-        (λ checked. ⊎_elim (λ failed. absurd cc) (λ memory. absurd cc) checked.3) o;
-  };
-})
+guard_known {T} {see = see} check {message} {known} {one} seen inner only text_is =
+    rw text_is (record {
+      law = λ env. narrower_form (guard_within (outcome_of one) message only)
+          (or_part_law _ _ (guard_law (inner.law env) (λ x b. b ≡ check (see x)) message
+          (view_agrees apart (program_form known env) (view_seen seen env))) (part_law env));
+      part = λ env. narrower_part_form (guard_within (outcome_of one) message only) (part_law env);
+      also = made_also inner.also (λ x v made. (made.0, only x true made.1));
+      shows = inner.shows;
+      shown = inner.shown;
+      hands = record {
+        all = λ s e t doc full o is. ⊎_elim (λ refused. inner.hands.all s e t doc full refused is)
+            (λ checked. ⊎_elim (λ failed. absurd cc) (λ memory. absurd cc) checked.3) o;
+      };
+    })
+  where
+    -- of two values that look alike the check accepts both or none
+    apart : (x y v : T) → see x ≡ see y → (guard_closure (λ x b. b ≡ check (see x))).yes x v
+        → (guard_closure (λ x b. b ≡ check (see x))).no y → ⊥
+    apart x y v e f n = absurd (true≢false (f.1 ∙ (ap check e ∙ sym n)))
+
+    -- as a named part
+    part_law : (env : Variables)
+        → PartFormLaw env (GuardOutcome (outcome_of one) (λ x b. b ≡ check (see x)) message)
+        (keys_of known true)
+        (of_part (λ p. part_closed p (guard_closure (λ x b. b ≡ check (see x))))
+        (part_form known env))
+    part_law env = guard_part_law (inner.part env) (λ x b. b ≡ check (see x)) message
+        (part_view_agrees apart (part_form known env) (part_seen seen env))
 
 -- a last field
 pub last_known : {T : Type 0} (known : Grammar T) {made : Grammar T} → IsKnownParser known made
     → AreKnownFields (alone known) (alone made)
 last_known known inner = record {
   law = λ env. program_alone_law (program_field_law (inner.law env));
+  part = inner.part;
   also = inner.also;
   shows = λ shapes shown. (shown.0, inner.shows shown.0 shown.1, shown.2);
   shown = inner.shown;
@@ -263,7 +290,10 @@ pub both_known : {A B : Type 0} (first : Grammar A) (rest : FieldsGrammar B) {on
     {others : FieldsGrammar B} → IsKnownParser first one → AreKnownFields rest others
     → AreKnownFields (both first rest) (both one others)
 both_known first rest {one} is more = record {
-  law = λ env. program_both_law (program_field_law (is.law env)) (more.law env);
+  law = λ env. or_part_law _ _
+      (program_both_law (program_field_law (is.law env)) (more.law env))
+      (both_part_law (is.part env) (more.part env));
+  part = λ env. both_part_law (is.part env) (more.part env);
   also = both_also is.also more.also;
   shows = λ shapes shown.
       (shown.0, shown.1, is.shows shown.0 shown.2, more.shows shown.1 shown.3, shown.4);
@@ -279,7 +309,10 @@ pub con_known : {A B : Type 0} (make : A → B) (known : FieldsGrammar A) {those
     → IsKnownParser (known_con make known) (product answers those)
 con_known make known {those} fields {answers} only = record {
   law = λ env. narrower_form (con_within (outcome_of those) only)
-      (program_con_law (λ x v. v ≡ make x) (fields.law env));
+      (or_part_law _ _ (program_con_law (λ x v. v ≡ make x) (fields.law env))
+      (con_part_law (fields.part env) (λ x v. v ≡ make x)));
+  part = λ env. narrower_part_form (con_within (outcome_of those) only)
+      (con_part_law (fields.part env) (λ x v. v ≡ make x));
   also = made_also fields.also only;
   shows = λ shape shown. (shown.0, fields.shows shown.0 shown.1, shown.2);
   shown = fields.shown;
@@ -380,7 +413,8 @@ module _ {T : Type 0} {known made : Grammar T} (is : IsKnownParser known made) w
   pub many_known : {catch : Bool} → catch ≡ false
       → IsKnownParser (known_many known) (repeat (many catch) made)
   many_known none = rw none (record {
-    law = λ env. many_law (is.law env) false;
+    law = λ env. or_part_law _ _ (many_law (is.law env) false) (many_part_law (is.part env) false);
+    part = λ env. many_part_law (is.part env) false;
     also = made_also (list_also is.also) (λ values v made. made);
     shows = λ shape shown. (shown.0, is.shows shown.0 shown.1, shown.2);
     shown = is.shown;
@@ -391,7 +425,9 @@ module _ {T : Type 0} {known made : Grammar T} (is : IsKnownParser known made) w
   pub optional_known : {catch : Bool} → catch ≡ false
       → IsKnownParser (known_optional known) (optional catch made)
   optional_known none = rw none (record {
-    law = λ env. optional_law (is.law env) false;
+    law = λ env. or_part_law _ _ (optional_law (is.law env) false)
+        (optional_form_part_law (is.part env) false);
+    part = λ env. optional_form_part_law (is.part env) false;
     also = optional_also is.also;
     shows = λ shape shown. (shown.0, is.shows shown.0 shown.1, shown.2);
     shown = is.shown;
@@ -405,7 +441,11 @@ module _ {T : Type 0} {known made : Grammar T} (is : IsKnownParser known made) w
   default_known {clones} equal value is_kept unseen = rw (is_kept, unseen) (record {
     law = λ env. narrower_form
         (no_more (λ s t r o. fallback_kept equal (outcome_of made) value s r t o))
-        (fallback_law (is.law env) IsKept value);
+        (or_part_law _ _ (fallback_law (is.law env) IsKept value)
+        (fallback_part_law (is.part env) IsKept value));
+    part = λ env. narrower_part_form
+        (no_more (λ s t r o. fallback_kept equal (outcome_of made) value s r t o))
+        (fallback_part_law (is.part env) IsKept value);
     also = choice_also is.also (pure_also (λ v gives. equal value v gives));
     shows = λ shape shown. (shown.0, is.shows shown.0 shown.1, shown.2);
     shown = is.shown;

@@ -1,23 +1,21 @@
 -- Parsers of programs all of whose values on the same words look alike.
 use Rattle.std.proofs.Common.{◌≡◌, ◌∙◌, All, Bool, IsUtf8, List, Option, ap, arith, map}
-use Rattle.std.proofs.Common.{string_bytes, sym, true≢false, ℕ}
-use Rattle.bpaf_doc.specs.{Names.Names, declared.doc.Piece.Piece}
-use Rattle.bpaf_words.specs.{Arguments.Given, Line.Known}
-use Rattle.bpaf_text.specs.{Meaning.SpellsUnsigned, Named.KeyWithValue}
-use Rattle.bpaf_exact.proofs.OneView.{number_one, values_look_one}
-use Rattle.bpaf_exact.specs.Pieces.{Cells}
-use Rattle.bpaf_exact.specs.ProgramForm.{ProgramForm, program_value}
-use Rattle.bpaf_exact.specs.Says.{Alike, Respects}
-use Rattle.bpaf_grammar.specs.declared.position.Position.{Position}
-use Rattle.bpaf_grammar.specs.Grammar.{FieldsGrammar, Grammar, argument, word}
-use Rattle.bpaf_record.specs.Record.{IsProgramValueOf}
-use Rattle.bpaf_record.proofs.FormLaws.{law_of}
 use Rattle.bpaf_record.proofs.LookAlike.{IsSeen, agrees_seen, argument_seen, closed_seen}
 use Rattle.bpaf_record.proofs.LookAlike.{fallback_seen, flag_seen, product_seen, repeat_seen}
-use Rattle.bpaf_record.proofs.LookAlike.{view_seen, word_seen}
-use Rattle.bpaf_record.proofs.Running.{same_context}
-use Rattle.bpaf_program.specs.KnownParser.{IsValueBy, MeansText, String, known_con, known_default}
+use Rattle.bpaf_program.specs.KnownParser.{IsValueBy, MeansText, known_con, known_default}
 use Rattle.bpaf_program.specs.KnownParser.{known_guard, known_many, known_map, known_switch, makes}
+use Rattle.std.proofs.Common.{string_bytes, sym, true≢false, ℕ}
+use Rattle.bpaf_doc.specs.{declared.doc.Piece.Piece, Names.Names}
+use Rattle.bpaf_words.specs.{Arguments.Given}
+use Rattle.bpaf_text.specs.{Meaning.SpellsUnsigned, Named.KeyWithValue}
+use Rattle.bpaf_exact.proofs.OneView.{number_one, values_look_one}
+use Rattle.bpaf_exact.specs.{ProgramForm.ProgramForm, ProgramForm.program_value, Pieces.Cells}
+use Rattle.bpaf_exact.specs.Says.{Alike, Respects}
+use Rattle.bpaf_grammar.specs.Grammar.{FieldsGrammar, Grammar, argument, word}
+use Rattle.bpaf_grammar.specs.declared.position.Position.{Position}
+use Rattle.bpaf_record.specs.Record.{IsProgramValueOf}
+use Rattle.bpaf_record.proofs.{LookAlike.view_seen, LookAlike.word_seen, Running.same_context}
+use Rattle.bpaf_record.proofs.FormLaws.{law_of}
 use Rattle.bpaf_program.specs.KnownParser.{program_names}
 
 -- a switch

@@ -1,25 +1,23 @@
 -- A program that prints its answer runs to the texts that answer its words, or to a part of one.
 use Rattle.std.proofs.Common.{inl, Ok, ◌≡◌, ℕ, Bool, List, Result, Err, string_bytes, codes, All}
-use Rattle.std.proofs.Common.{IfOk}
-use Rattle.std.proofs.Common.{IsUtf8, map, refl, slice_index_or, subst, sym, ap, ◌==◌, true, false}
-use Rattle.std.proofs.Common.{◌-◌, [], ◌∷◌, ◌++◌, Option, OnOk, OnErr, take, drop, length, ◌∙◌}
-use Rattle.std.proofs.KnownBytes.{Appends-trans, Appends-kept}
-use Rattle.std.proofs.lemmas.List.{take_rest, take-append-drop}
-use Rattle.std.proofs.Common.{append_assoc, ◌<◌, ◌+◌, ◌||◌, not, ap₂, arith, drop-cons, get_or, suc}
-use Rattle.std.proofs.{lemmas.Str.IsUtf8-string_bytes, lemmas.List.Elements.All-map}
-use Rattle.std.specs.Io.KnownBytes.{Appends, Keeps}
-use Rattle.std.specs.{Result.IfErr, Result.IsErr, Result.IsErrAnd, declared.alloc.Global.Global}
-use Rattle.std.specs.{Prelude.String}
-use Rattle.bpaf_doc.specs.{declared.doc.Piece.Piece, Print.printed}
-use Rattle.bpaf_line.specs.declared.failure.ParseFailure.{ParseFailure}
-use Rattle.bpaf_line.specs.declared.failure.ParseFailure.TheVariants.{Stdout, Stderr, Memory}
-use Rattle.bpaf.specs.Asked.{IfShown}
-use Rattle.bpaf_exact.specs.Says.{Alike}
+use Rattle.std.proofs.Common.{IfOk, IsUtf8, map, refl, slice_index_or, subst, sym, ap, ◌==◌, true}
+use Rattle.std.proofs.Common.{false, ◌-◌, [], ◌∷◌, ◌++◌, Option, OnOk, OnErr, take, drop, length}
+use Rattle.std.proofs.Common.{◌∙◌, append_assoc, ◌<◌, ◌+◌, ◌||◌, not, ap₂, arith, drop-cons, get_or}
 use Rattle.bpaf_program.specs.Ending.{IsPrinted, TellsFailure, given, told, AnswersByText}
 use Rattle.bpaf_program.specs.Ending.{AnswersText, AnswersTextOf, IsTextOrWant, OrPage, RunPrints}
 use Rattle.bpaf_program.specs.Ending.{PrintsTextOf, RunsTo, memory_wanted, shows, tells, written}
 use Rattle.bpaf_program.specs.Ending.{Written, EndsBy, with_status, with_value, IsUntouched, Failed}
 use Rattle.bpaf_program.specs.Ending.{KnownSink, Writes, WritesPart, wrote, TellsLine, told_in_part}
+use Rattle.std.proofs.{lemmas.List.take_rest, lemmas.List.take-append-drop, Common.suc}
+use Rattle.std.proofs.KnownBytes.{Appends-trans, Appends-kept}
+use Rattle.std.proofs.{lemmas.Str.IsUtf8-string_bytes, lemmas.List.Elements.All-map}
+use Rattle.std.specs.{Result.IfErr, Result.IsErr, Result.IsErrAnd, declared.alloc.Global.Global}
+use Rattle.std.specs.{Io.KnownBytes.Appends, Io.KnownBytes.Keeps, Prelude.String}
+use Rattle.bpaf_doc.specs.{declared.doc.Piece.Piece, Print.printed}
+use Rattle.bpaf_line.specs.declared.failure.ParseFailure.TheVariants.{Stdout, Stderr, Memory}
+use Rattle.bpaf_line.specs.declared.failure.ParseFailure.{ParseFailure}
+use Rattle.bpaf.specs.Asked.{IfShown}
+use Rattle.bpaf_exact.specs.Says.{Alike}
 use Rattle.bpaf_program.specs.{KnownParser.IsExactFor, Ending.told_whole}
 
 -- texts are in UTF-8

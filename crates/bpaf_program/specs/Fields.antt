@@ -2,12 +2,11 @@
 -- text.
 use Rattle.std.specs.Prelude.{◌≡◌, Bool, true, false, ℕ, List, Option, Some, None}
 use Rattle.bpaf_doc.specs.{Print.text_pieces, Names.Names}
-use Rattle.bpaf_text.specs.declared.params.ParseFlag.{ParseFlag}
 use Rattle.bpaf_text.specs.Named.{KeyWithValue, key_named, with_help}
-use Rattle.bpaf_laws.specs.{Command.named_only}
+use Rattle.bpaf_text.specs.declared.params.ParseFlag.{ParseFlag}
+use Rattle.bpaf_laws.specs.Command.{named_only}
 use Rattle.bpaf_core.specs.declared.commands.ParseCommand.{ParseCommand}
-use Rattle.bpaf.specs.declared.leaves.positional.ParsePositional.{ParsePositional}
-use Rattle.bpaf.specs.{Info.plain_info}
+use Rattle.bpaf.specs.{declared.leaves.positional.ParsePositional.ParsePositional, Info.plain_info}
 use Rattle.bpaf_grammar.specs.declared.position.Position.{Position}
 use Rattle.bpaf.proofs.LeafLemmas.{key_with_help}
 

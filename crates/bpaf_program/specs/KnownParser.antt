@@ -1,26 +1,23 @@
 -- What is known of the parsers that a function of a program makes or is handed: their fields,
 -- their values, and of what they are made.
 use Rattle.std.specs.Prelude.{String as StringIn, string_bytes, Result, Option, false, List, true}
-use Rattle.std.specs.Prelude.{IfOk, Bool, None, Some, ◌≡◌, [], ℕ}
-use Rattle.std.specs.{declared.alloc.Global.Global, Global.Vec}
 use Rattle.bpaf_grammar.specs.Grammar.{shorts_of, outcome_of, mapped, many, cloned, FieldsGrammar}
 use Rattle.bpaf_grammar.specs.Grammar.{command_words, GrammarOf, choice, fallback, optional}
 use Rattle.bpaf_grammar.specs.Grammar.{Grammar, command, keys_of, both, product, closed, repeat}
+use Rattle.bpaf.specs.Asked.{nothing_shown, BehindWord, WordsShow, OneShows, RunShows, HandsOn}
+use Rattle.std.specs.Prelude.{IfOk, Bool, None, Some, ◌≡◌, [], ℕ}
+use Rattle.std.specs.{declared.alloc.Global.Global, Global.Vec}
 use Rattle.bpaf_grammar.specs.Grammar.{alone, flag, describes_of, guarded, reads_of}
 use Rattle.bpaf_grammar.specs.Words.{Deals, names_of}
 use Rattle.bpaf_words.specs.{Arguments.Given, Line.Known}
-use Rattle.bpaf_line.specs.declared.failure.ParseFailure.{ParseFailure}
-use Rattle.bpaf_doc.specs.{declared.doc.Piece.Piece, Print.text_pieces, Shape.Shape}
-use Rattle.bpaf_laws.specs.{Command.named_only, Reading.Readings, Reading.Share}
-use Rattle.bpaf_line.specs.Situation.{Context}
-use Rattle.bpaf.specs.{Info.plain_info, Info.RunInfo}
-use Rattle.bpaf.specs.Asked.{nothing_shown, BehindWord, WordsShow, OneShows, RunShows, HandsOn}
-use Rattle.bpaf.specs.Asked.{Showing}
-use Rattle.bpaf_exact.specs.Flat.{map_closure, Variables, Closure}
-use Rattle.bpaf_exact.specs.ProgramForm.{FormLaw}
-use Rattle.bpaf_record.specs.Program.{program_form}
+use Rattle.bpaf_line.specs.{declared.failure.ParseFailure.ParseFailure, Situation.Context}
+use Rattle.bpaf_doc.specs.{declared.doc.Piece.Piece, Print.text_pieces, Shape.Shape, Names.Names}
+use Rattle.bpaf_laws.specs.{Reading.Readings, Reading.Share, Command.named_only}
+use Rattle.bpaf.specs.{Info.plain_info, Info.RunInfo, Asked.Showing}
+use Rattle.bpaf_exact.specs.{Flat.map_closure, Flat.Variables, Flat.Closure, ProgramForm.FormLaw}
+use Rattle.bpaf_exact.specs.Parts.{PartFormLaw}
 use Rattle.bpaf_record.specs.Record.{IsProgramValueOf, IsValueOrWant}
-use Rattle.bpaf_doc.specs.Names.{Names}
+use Rattle.bpaf_record.specs.Program.{part_form, program_form}
 use Rattle.bpaf_text.specs.Named.{key_named}
 pub use Rattle.bpaf_laws.specs.Reading.{IsKept}
 
@@ -88,6 +85,8 @@ pub record IsKnownParser {T : Type 0} (known made : Grammar T) : Type 0 where
   pub law : (variables : Variables)
       → FormLaw variables (outcome_of made) (keys_of known true) (command_words known)
       (program_form known variables)
+  pub part : (variables : Variables)
+      → PartFormLaw variables (outcome_of made) (keys_of known true) (part_form known variables)
   pub also : IsAlso (reads_of made) (reads_of known)
   pub shows : (shape : Shape) → describes_of made shape → describes_of known shape
   pub shown : shorts_of made ≡ shorts_of known
@@ -97,6 +96,8 @@ pub record IsKnownParser {T : Type 0} (known made : Grammar T) : Type 0 where
 pub record AreKnownFields {V : Type 0} (known made : FieldsGrammar V) : Type 0 where
   pub law : (variables : Variables)
       → FormLaw variables (outcome_of made) (keys_of known true) [] (program_form known variables)
+  pub part : (variables : Variables)
+      → PartFormLaw variables (outcome_of made) (keys_of known true) (part_form known variables)
   pub also : IsAlso (reads_of made) (reads_of known)
   pub shows : (shapes : List Shape) → describes_of made shapes → describes_of known shapes
   pub shown : shorts_of made ≡ shorts_of known

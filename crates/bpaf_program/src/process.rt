@@ -1,7 +1,6 @@
 //! The words that the process was given.
-ghost use Rattle.std.specs.Prelude.{◌≡◌, IfOk, drop};
-ghost use Rattle.std.specs.Vec.Iter.{into_iter_items};
-ghost use Rattle.std.specs.{Result.IfErr, declared.io.ErrorKind.TheVariants.OutOfMemory};
+ghost use Rattle.std.specs.{declared.io.ErrorKind.TheVariants.OutOfMemory, Result.IfErr};
+ghost use Rattle.std.specs.{Prelude.◌≡◌, Prelude.IfOk, Prelude.drop, Vec.Iter.into_iter_items};
 ghost use Rattle.bpaf_line.specs.declared.failure.ParseFailure.TheVariants.{Memory, Stderr};
 ghost use Rattle.bpaf_program.specs.Ending.{IsUnread};
 

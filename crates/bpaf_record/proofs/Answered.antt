@@ -3,50 +3,48 @@
 use Rattle.std.proofs.Common.{slice_index_or, slice_index, true≢false, length, IsUtf8, Option, zero}
 use Rattle.std.proofs.Common.{IsSome, Result, ⊎_elim, false, codes, subst, arith, ◌++◌, None, Some}
 use Rattle.std.proofs.Common.{IfOk, Bool, true, List, refl, cond, ◌==◌, ◌&&◌, ◌≡◌, ◌≢◌, suc, ◌∷◌, ℕ}
-use Rattle.std.proofs.Common.{◌+◌, map, sym, ◌∙◌, All, not, ◌<◌, ◌⊎◌, inl, inr, ap₂, [], ap}
 use Rattle.std.proofs.lemmas.List.Elements.{Contains-append_right, Contains-append_cases, All-take}
 use Rattle.std.proofs.lemmas.List.Elements.{Contains-append_left, All-contains_itself, All-contains}
 use Rattle.std.proofs.lemmas.List.Elements.{recursion_from_All, Contains-get_or, filter_passes}
 use Rattle.std.proofs.lemmas.List.Sums.{AllPass-from_list_all, count_by_more_yes, sum_by-take-le}
-use Rattle.std.proofs.{lemmas.List.Elements.All-filter, lemmas.List.Sums.length-filter}
-use Rattle.std.proofs.{lemmas.Str.encode_ascii, lemmas.Bool.or_cases, lemmas.Bool.not-true}
 use Rattle.std.specs.List.{position_or_len, AllByRecursion, Contains, list_all, list_any, AllZip}
-use Rattle.std.specs.List.{filter}
-use Rattle.std.specs.{Option.option_to_list, Char.IsAsciiDigit, Prelude.flat_map}
+use Rattle.bpaf_words.specs.Line.{IsNumberWord, SpellsJoined, HasNoMarker, HasNoEquals, argument_of}
+use Rattle.bpaf_words.specs.Line.{ShortNames, dash_char, IsKnownAs, SpellAll, argument, flags_of}
+use Rattle.bpaf_exact.specs.Pieces.{takes_argument, stands_behind, empty_stays, other_stays, others}
+use Rattle.bpaf_exact.specs.Pieces.{is_own_role, takes_flag, LinePiece, is_value, no_cells, IsNamed}
+use Rattle.bpaf_exact.specs.ProgramForm.{product_roles, whole_program, opens_later, line_cells}
+use Rattle.bpaf_exact.specs.Says.{says_variable, says_present, ArgumentSays, OptionalSays, FlagSays}
+use Rattle.bpaf_exact.specs.Says.{FallbackSays, says_absent, first_item, RepeatSays, scope_said}
+use Rattle.bpaf_record.specs.Program.{ends_in_commands, program_form, cells_say, says, is_flat}
+use Rattle.std.proofs.Common.{◌+◌, map, sym, ◌∙◌, All, not, ◌<◌, ◌⊎◌, inl, inr, ap₂, [], ap}
+use Rattle.std.proofs.lemmas.Bool.{or_cases, not-true, and_parts, ltb-true}
+use Rattle.std.proofs.{lemmas.List.Folds.list_any-append, lemmas.List.Elements.All-filter}
+use Rattle.std.proofs.{lemmas.List.Sums.length-filter, lemmas.Str.encode_ascii}
+use Rattle.std.specs.{Prelude.flat_map, Prelude.encode_utf8_all, Char.IsAsciiDigit, Char.is_ascii}
+use Rattle.std.specs.{Option.option_to_list, List.filter}
 use Rattle.bpaf_base.specs.declared.arg.Arg.TheVariants.{PosWord, Short, Long}
 use Rattle.bpaf_base.specs.Items.{is_text_among, is_key_of, item_text, is_among}
 use Rattle.bpaf_base.specs.declared.arg.Arg.{Arg}
 use Rattle.bpaf_doc.specs.Names.{Names}
-use Rattle.bpaf_words.specs.Line.{IsNumberWord, SpellsJoined, HasNoMarker, HasNoEquals, argument_of}
-use Rattle.bpaf_words.specs.Line.{ShortNames, dash_char, IsKnownAs, SpellAll, argument, flags_of}
 use Rattle.bpaf_words.specs.Line.{by_dash, Spells, joined, Known, Items, short, flags, long}
-use Rattle.std.specs.Prelude.{encode_utf8_all}
-use Rattle.std.specs.Char.{is_ascii}
-use Rattle.std.proofs.lemmas.Bool.{and_parts, ltb-true}
-use Rattle.std.proofs.lemmas.List.Folds.{list_any-append}
 use Rattle.bpaf_words.specs.Arguments.{Given}
 use Rattle.bpaf_words.proofs.OneSpelling.{one_spelling}
 use Rattle.bpaf_line.specs.{declared.failure.ParseFailure.ParseFailure, Situation.Context}
 use Rattle.bpaf_line.specs.Taking.{IsContext}
 use Rattle.bpaf_laws.specs.Command.{is_one_of}
 use Rattle.bpaf_grammar.specs.declared.position.Position.TheVariants.{NonStrict, Strict}
+use Rattle.bpaf_grammar.specs.Grammar.{Grammar}
 use Rattle.bpaf.specs.Marker.{is_marker_word, words_before, words_behind}
 use Rattle.bpaf.specs.Positional.{accepts}
 use Rattle.bpaf.proofs.Sides.{all_spelled, of_words}
 use Rattle.bpaf_exact.proofs.Says.{argument_needs, repeat_needs, word_values, NeedsPiece, no_values}
 use Rattle.bpaf_exact.proofs.{Names.of_front_one, Places.test_named}
-use Rattle.bpaf_exact.specs.Pieces.{takes_argument, stands_behind, empty_stays, other_stays, others}
-use Rattle.bpaf_exact.specs.Pieces.{is_own_role, takes_flag, LinePiece, is_value, no_cells, IsNamed}
+use Rattle.bpaf_exact.specs.ProgramForm.{opens_here, flag_roles, WordValue, Opens, CellsValue}
+use Rattle.bpaf_exact.specs.Says.{says_some, says_none, WordSays, CutSays, keyed, Said, scope_told}
 use Rattle.bpaf_exact.specs.Pieces.{Roles, Cells, Takes, Owns, Cut, One, Two}
-use Rattle.bpaf_exact.specs.ProgramForm.{product_roles, whole_program, opens_later, line_cells}
-use Rattle.bpaf_exact.specs.ProgramForm.{opens_here, flag_roles, WordValue, Opens}
-use Rattle.bpaf_exact.specs.Says.{says_variable, says_present, ArgumentSays, OptionalSays, FlagSays}
-use Rattle.bpaf_exact.specs.Says.{FallbackSays, says_absent, first_item, RepeatSays, scope_said}
-use Rattle.bpaf_exact.specs.Says.{says_some, says_none, WordSays, CutSays, keyed, Said}
 use Rattle.bpaf_exact.specs.Flat.{OneWord, front, back}
-use Rattle.bpaf_grammar.specs.Grammar.{Grammar}
-use Rattle.bpaf_record.specs.Program.{ends_in_commands, program_form, cells_say, says}
 use Rattle.bpaf_record.specs.Record.{IsSpelledItem, TellsOfWords, WasSpelled, WasCalled}
+use Rattle.bpaf_record.specs.Program.{make_of, scope_by, tells_cells}
 use Rattle.bpaf_record.proofs.Running.{each_present, cut_kept, on_line, present}
 
 module _ (known : Known) where
@@ -423,18 +421,29 @@ pub record AreOfLine (known : Known) (words : List (List ℕ)) (os : List LinePi
   pub spelled : (key : Names) → All IsUtf8 words → WasSpelled known key words
       → keyed (key ∷ []) os ≢ []
 
+-- what is told of no cells is told of pieces
+flat_told : {T : Type 0} (flat c : Bool) {roles : Roles} {said : Said T}
+    (in_cells exact : CellsValue T) {cs : Cells} {v : T} → tells_cells flat c ≡ false
+    → scope_by flat (scope_said c roles said in_cells) exact cs v → CutSays roles said cs v
+flat_told true c {roles} {said} in_cells exact {cs} {v} e told =
+    subst (λ b. scope_said b roles said in_cells cs v) e told
+flat_told false c in_cells exact e told = absurd cc
+
 -- What a value says of the pieces of the line of words is told of these, by the names that a caller
 -- knows.
 pub told_of_line : {T : Type 0} {known : Known} {g : Grammar T} {given : Given} {v : T}
-    {Q : Type 0} → TellsOfWords known g given v → ends_in_commands g ≡ false → (by : Known)
+    {Q : Type 0} → TellsOfWords known g given v
+    → tells_cells (is_flat (make_of g)) (ends_in_commands g) ≡ false
+    → (by : Known)
     → known ≡ by → (words : List (List ℕ)) → given.words ≡ words
     → ((os : List LinePiece) → AreOfLine by words os → says g given.env os v → Q) → Q
 told_of_line {T} {known} {g} {given} {v} told flat by is words same so =
     let line = told.is_value in
     let roles : Roles = product_roles (whole_program (program_form g given.env)) in
     let cut : CutSays roles (says g given.env) (line_cells line.context) v =
-    subst (λ b. scope_said b roles (says g given.env) (cells_say g given.env)
-    (line_cells line.context) v) flat told.told in
+    flat_told (is_flat (make_of g)) (ends_in_commands g) (cells_say g given.env)
+    (scope_told (whole_program (program_form g given.env)) (ends_in_commands g)
+    (says g given.env) (cells_say g given.env)) flat told.told in
     let own : AreOfLine known words cut.cut_into = record {
       own = λ key. record {
         spelled = λ some. subst (WasSpelled known key) same (piece_was_spelled key known given

@@ -1,5 +1,6 @@
 pub mod FormLaws
 pub mod Parts
+pub mod Makes
 pub mod GrammarSays
 pub mod Surplus
 pub mod Running

@@ -3,16 +3,20 @@
 use Rattle.std.proofs.Common.{if◌then◌else◌, append-nil, slice_get, Option, length, IsUtf8, Result}
 use Rattle.std.proofs.Common.{false, arith, subst, codes, zero, Bool, true, List, ◌++◌, ◌==◌, Some}
 use Rattle.std.proofs.Common.{None, refl, cond, drop, IfOk, ◌≡◌, ◌<◌, suc, ◌∷◌, map, sym, ◌∙◌, All}
-use Rattle.std.proofs.Common.{Err, [], ap, Ok, ℕ}
 use Rattle.std.proofs.lemmas.List.Elements.{Contains-append_right, All-contains, All-append}
+use Rattle.bpaf_words.specs.Line.{without_marker, HasNoMarker, with_marker, HasNoLine, SpellAll}
+use Rattle.bpaf_exact.specs.Pieces.{LinePiece, argument, is_value, at_end, passed, Cells, Roles}
+use Rattle.bpaf_exact.specs.ProgramForm.{IsAcceptedOrWant, IsSpelledLine, product_roles, is_spelled}
+use Rattle.bpaf_exact.specs.ProgramForm.{whole_program, program_value, ProgramForm, line_cells}
+use Rattle.bpaf_record.specs.Record.{is_whole_program, AnswersAsProgram, AnswersByFields, answer_of}
+use Rattle.std.proofs.{Common.Err, Common.[], Common.ap, Common.Ok, Common.ℕ, lemmas.List.get_or_at}
 use Rattle.std.proofs.{lemmas.Option.slice_get_within, lemmas.List.Elements.All-map}
-use Rattle.std.proofs.{lemmas.List.get_or_at, lemmas.Bool.and_parts}
+use Rattle.std.proofs.lemmas.Bool.{and_parts}
 use Rattle.std.specs.{Prelude.flat_map, Prelude.get_or, List.Contains, List.filter}
 use Rattle.std.specs.Option.{option_to_list}
 use Rattle.bpaf_base.specs.{declared.arg.Arg.TheVariants.PosWord, declared.arg.Arg.Arg}
-use Rattle.bpaf_doc.specs.{Names.Names, Shape.Shape}
-use Rattle.bpaf_words.specs.Line.{without_marker, HasNoMarker, with_marker, HasNoLine, SpellAll}
-use Rattle.bpaf_words.specs.{Arguments.Given, Line.IsLine, Line.Known}
+use Rattle.bpaf_doc.specs.{Shape.Shape, Names.Names}
+use Rattle.bpaf_words.specs.{Line.IsLine, Line.Known, Arguments.Given}
 use Rattle.bpaf_words.proofs.OneLine.{one_lines}
 use Rattle.bpaf_line.specs.Situation.{is_marker, beginning, Context, item_in}
 use Rattle.bpaf_line.specs.{declared.failure.ParseFailure.ParseFailure, Taking.IsContext}
@@ -23,18 +27,13 @@ use Rattle.bpaf.specs.Info.{RunInfo}
 use Rattle.bpaf.proofs.Sides.{all_spelled, two_sides, of_words, EachOf}
 use Rattle.bpaf_exact.proofs.ProgramForm.{runs_as_program, runs_exactly, record_law}
 use Rattle.bpaf_exact.proofs.Cuts.{cut_holds_together}
-use Rattle.bpaf_exact.specs.Pieces.{LinePiece, argument, is_value, at_end, passed, Cells, Roles}
-use Rattle.bpaf_exact.specs.ProgramForm.{IsAcceptedOrWant, IsSpelledLine, product_roles, is_spelled}
-use Rattle.bpaf_exact.specs.ProgramForm.{whole_program, program_value, ProgramForm, line_cells}
 use Rattle.bpaf_exact.specs.ProgramForm.{is_program, is_dashed, is_record, Accepted, FormLaw}
+use Rattle.bpaf_exact.specs.{Pieces.flag, Pieces.word, Pieces.Cut, Flat.first_cells}
 use Rattle.bpaf_exact.specs.Says.{first_item}
-use Rattle.bpaf_exact.specs.{Flat.first_cells, Pieces.flag, Pieces.word, Pieces.Cut}
 use Rattle.bpaf_grammar.specs.Grammar.{Grammar, keys_of}
-use Rattle.bpaf_record.specs.Program.{program_form}
-use Rattle.bpaf_record.proofs.{GrammarSays.grammar_says_so, Surplus.has_no_surplus}
-use Rattle.bpaf_record.specs.Record.{is_whole_program, AnswersAsProgram, AnswersByFields, answer_of}
 use Rattle.bpaf_record.specs.Record.{is_flat_record, IsValueOrWant, TellsOfWords, PiecesOf}
-use Rattle.bpaf_record.specs.Commands.{run_ran}
+use Rattle.bpaf_record.specs.{Program.program_form, Commands.run_ran}
+use Rattle.bpaf_record.proofs.{GrammarSays.grammar_says_so, Surplus.has_no_surplus}
 use Prim.Native.Nat.compare
 
 -- the items that are present

@@ -1,45 +1,44 @@
 -- The pieces of an accepted line have no occurrence and no word too many.
 use Rattle.std.proofs.Common.{if◌then◌else◌, true≢false, length, filter, Option, arith, subst, Bool}
 use Rattle.std.proofs.Common.{false, List, refl, true, Some, None, ◌&&◌, ◌++◌, ◌||◌, not, sym, ◌+◌}
-use Rattle.std.proofs.Common.{◌∙◌, ◌∷◌, ◌≡◌, ◌≤◌, [], ap, ℕ}
-use Rattle.std.proofs.lemmas.Bool.{and_parts, or_right, not-true, or_left}
-use Rattle.std.proofs.lemmas.List.{Filters.length-filter_both, Folds.list_any-append, length-append}
-use Rattle.std.proofs.lemmas.List.{length-drop, length-take}
-use Rattle.std.proofs.lemmas.List.Elements.{filter-append}
-use Rattle.std.specs.Option.{is_none}
-use Rattle.bpaf_base.specs.Items.{is_key_of}
-use Rattle.bpaf_doc.specs.Names.{Names}
-use Rattle.bpaf_laws.specs.Combinators.{is_nil}
 use Rattle.bpaf_exact.proofs.Names.{others_unkeyed, none_behind, others_both, others_none, cut_fit}
-use Rattle.bpaf_exact.proofs.Names.{kept_twice}
-use Rattle.bpaf_exact.proofs.OwnedKeys.{whole_owns, none_owned, OwnsKeys}
-use Rattle.bpaf_exact.proofs.ProgramSays.{cut_says}
 use Rattle.bpaf_exact.specs.Flat.{FieldsReading, FallbackValue, both_reading, FieldKind, is_behind}
 use Rattle.bpaf_exact.specs.Flat.{Variables, EachWord, repeated, Closure, OneWord, OwnList, portion}
-use Rattle.bpaf_exact.specs.Flat.{ByName, Groups, LastOf, keys, left, Gap, map_closure}
-use Rattle.std.specs.List.{before_first, list_all}
 use Rattle.bpaf_exact.specs.Pieces.{is_key_of_any, are_all_apart, is_own_role, LinePiece, no_roles}
-use Rattle.bpaf_exact.specs.Pieces.{either, others, Cells, Roles, Owns, Cut}
 use Rattle.bpaf_exact.specs.ProgramForm.{program_optional, product_reading, program_dressed, single}
 use Rattle.bpaf_exact.specs.ProgramForm.{before_commands, program_choice, program_closed, FieldThen}
 use Rattle.bpaf_exact.specs.ProgramForm.{product_roles, program_alone, program_field, whole_program}
 use Rattle.bpaf_exact.specs.ProgramForm.{program_value, last_reading, program_both, CommandValue}
 use Rattle.bpaf_exact.specs.ProgramForm.{choice_only, program_con, ProgramForm, may_follow, product}
 use Rattle.bpaf_exact.specs.ProgramForm.{program_if, is_program, completed, key_field, are_plain}
-use Rattle.bpaf_exact.specs.ProgramForm.{complete, commands}
 use Rattle.bpaf_exact.specs.Says.{repeated_kind, words_after, first_item, its_pieces, form_kind}
-use Rattle.bpaf_exact.specs.Says.{SaidKind, of_kind, of_rest, unkeyed, keyed}
 use Rattle.bpaf_grammar.specs.Grammar.{product as con, command_words, FieldsGrammar, both}
 use Rattle.bpaf_grammar.specs.Grammar.{GrammarOf, argument, fallback, optional, command, dressed}
 use Rattle.bpaf_grammar.specs.Grammar.{Grammar, keys_of, choice, closed, repeat, alone, flag, kept}
-use Rattle.bpaf_grammar.specs.Grammar.{last, only, word, made, own, stretch}
 use Rattle.bpaf_record.specs.Program.{repeated_limit, limit_of_both, HasNoSurplus, HasOneOfEach}
 use Rattle.bpaf_record.specs.Program.{program_form, begins_known, are_unusual, word_limit}
 use Rattle.bpaf_record.specs.Program.{said_kind, takes_one, IsWithin, catches, default_closure}
+use Rattle.std.proofs.lemmas.Bool.{and_parts, or_right, not-true, or_left}
+use Rattle.std.proofs.Common.{◌∙◌, ◌∷◌, ◌≡◌, ◌≤◌, [], ap, ℕ}
+use Rattle.std.proofs.lemmas.List.{length-append, length-drop, length-take}
+use Rattle.std.proofs.{lemmas.List.Filters.length-filter_both, lemmas.List.Elements.filter-append}
+use Rattle.std.proofs.lemmas.List.Folds.{list_any-append}
+use Rattle.std.specs.{List.before_first, List.list_all, Option.is_none}
+use Rattle.bpaf_base.specs.Items.{is_key_of}
+use Rattle.bpaf_doc.specs.Names.{Names}
+use Rattle.bpaf_laws.specs.{Command.opening_words, Combinators.is_nil}
+use Rattle.bpaf_exact.proofs.OwnedKeys.{whole_owns, none_owned, OwnsKeys}
+use Rattle.bpaf_exact.proofs.{ProgramSays.cut_says, Names.kept_twice}
+use Rattle.bpaf_exact.specs.Flat.{ByName, Groups, LastOf, keys, left, Gap, map_closure}
+use Rattle.bpaf_exact.specs.Pieces.{either, others, Cells, Roles, Owns, Cut}
+use Rattle.bpaf_exact.specs.Says.{SaidKind, of_kind, of_rest, unkeyed, keyed}
+use Rattle.bpaf_exact.specs.ProgramForm.{complete, commands}
+use Rattle.bpaf_grammar.specs.Grammar.{last, only, word, made, own, stretch}
 use Rattle.bpaf_record.specs.Program.{repeat_closure, step_closure, says}
-use Rattle.bpaf_laws.specs.Command.{opening_words}
 use Rattle.bpaf_record.proofs.GrammarSays.{grammar_owns, grammar_says}
 use Rattle.bpaf_exact.specs.Pieces as cut
+use Rattle.bpaf_exact.specs.{Parts.PartForm, ProgramForm.after_parts, ProgramForm.or_part}
+use Rattle.bpaf_exact.specs.ProgramForm.{part}
 
 -- Occurrences.
 
@@ -376,7 +375,22 @@ both_limit {a = a} {b} ours behind (complete wide k q first) (product broad name
 both_limit {A} {B} ours behind (complete wide ByName q first) (before_commands rest) h g owns =
     if_limit (are_all_apart ours behind) {s = before_commands (FieldThen A B q first rest)}
     (record { by = tt })
+both_limit ours behind (complete wide ByName q first) (part p) h g owns =
+    if_limit (are_all_apart ours behind) (record { by = tt })
+both_limit ours behind (complete wide ByName q first) (after_parts rest) h g owns =
+    if_limit (are_all_apart ours behind) (record { by = tt })
+both_limit ours behind (part p) (product wide named r rest) h g owns =
+    if_limit (are_all_apart ours behind) (record { by = tt })
+both_limit ours behind (part p) (before_commands rest) h g owns =
+    if_limit (are_all_apart ours behind) (record { by = tt })
+both_limit ours behind (part p) (after_parts rest) h g owns =
+    if_limit (are_all_apart ours behind) (record { by = tt })
 both_limit ours behind _ _ h g owns = record { by = tt }
+
+-- what may be a part
+or_limit : {T : Type 0} {limit : Option ℕ} {s : ProgramForm T} (p : PartForm T) → HasLimit limit s
+    → HasLimit limit (or_part s p)
+or_limit p h = grind arith
 
 -- a form of what is made so is within its limit
 grammar_limit : {fields : Bool} {T : Type 0} (g : GrammarOf fields T) (variables : Variables)
@@ -391,29 +405,32 @@ grammar_limit (kept clones value) variables = record { by = tt }
 grammar_limit (own o) variables = record { by = tt }
 grammar_limit (made makes g) variables = record { by = tt }
 grammar_limit (stretch first g) variables = record { by = tt }
-grammar_limit (closed f g) variables = closed_limit _ (grammar_limit g variables) (step_closure f)
+grammar_limit (closed f g) variables =
+    or_limit _ (closed_limit _ (grammar_limit g variables) (step_closure f))
 grammar_limit (dressed look g) variables = dressed_limit _ (grammar_limit g variables)
 grammar_limit (optional catch g) variables =
-    if_limit (not catch) (optional_limit _ (grammar_limit g variables))
-grammar_limit (fallback {T = T} shown d g) variables = default_limit _ (grammar_limit g variables)
-    (λ group gap. FallbackValue T group gap (default_closure d))
-grammar_limit (repeat {A = A} f g) variables = if_limit (not (catches f))
-    (closed_limit _ (repeat_limit _ (grammar_limit g variables) (OwnList A)) (repeat_closure f))
-grammar_limit (last {T = T} g) variables = repeat_limit _ (grammar_limit g variables) (LastOf T)
-grammar_limit (choice g h) variables = choice_limit _ (keys_of g true) (keys_of h true)
-    (command_words g) (command_words h) (program_form g variables) (program_form h variables)
-grammar_limit (only g) variables = only_limit _ (program_form g variables)
+    or_limit _ (if_limit (not catch) (optional_limit _ (grammar_limit g variables)))
+grammar_limit (fallback {T = T} shown d g) variables =
+    or_limit _ (default_limit _ (grammar_limit g variables)
+    (λ group gap. FallbackValue T group gap (default_closure d)))
+grammar_limit (repeat {A = A} f g) variables = or_limit _ (if_limit (not (catches f))
+    (closed_limit _ (repeat_limit _ (grammar_limit g variables) (OwnList A)) (repeat_closure f)))
+grammar_limit (last {T = T} g) variables =
+    or_limit _ (repeat_limit _ (grammar_limit g variables) (LastOf T))
+grammar_limit (choice g h) variables = or_limit _ (choice_limit _ (keys_of g true) (keys_of h true)
+    (command_words g) (command_words h) (program_form g variables) (program_form h variables))
+grammar_limit (only g) variables = or_limit _ (only_limit _ (program_form g variables))
 grammar_limit (command {T = T} adjacent called info help g) variables = if_limit
     (((not adjacent && are_unusual (keys_of g false) info) && are_plain (opening_words called))
     && is_program (program_form g variables))
     {s = commands false (CommandValue T (opening_words called)
     (program_value (program_form g variables)))} (record { by = tt })
 grammar_limit (alone g) variables = alone_limit _ (field_limit _ (grammar_limit g variables))
-grammar_limit (both g h) variables = both_limit (keys_of g true) (keys_of h true) _ _
+grammar_limit (both g h) variables = or_limit _ (both_limit (keys_of g true) (keys_of h true) _ _
     (field_limit _ (grammar_limit g variables)) (grammar_limit h variables)
-    (grammar_owns h variables)
+    (grammar_owns h variables))
 grammar_limit (con makes g) variables =
-    con_limit _ (grammar_limit g variables) (map_closure makes)
+    or_limit _ (con_limit _ (grammar_limit g variables) (map_closure makes))
 
 -- a key that begins a piece of a cut line is one of those
 cut_known : {r : Roles} {names : List Names} → Owns r names → {cs : Cells} {os : List LinePiece}

@@ -1,32 +1,31 @@
 -- Plain commands and positional words keep to the laws of their forms.
 use Rattle.std.proofs.Common.{true≢false, Result, false, subst, Bool, true, List, Some, refl, ◌≡◌}
-use Rattle.std.proofs.Common.{Err, inl, inr, sym, ◌∙◌, not, Ok, ap, [], ℕ}
-use Rattle.bpaf_base.specs.{declared.arg.Arg.Arg, Items.word_text}
-use Rattle.bpaf_doc.specs.{Shape.Shape, Shape.Part, Names.Names}
 use Rattle.bpaf_line.specs.declared.error.Message.TheVariants.{NonStrictPos, ParseFailed, StrictPos}
-use Rattle.bpaf_line.specs.declared.error.Message.TheVariants.{Missing, Memory}
-use Rattle.bpaf_line.specs.{declared.failure.ParseFailure.ParseFailure, declared.error.Error.Error}
-use Rattle.bpaf_line.specs.Situation.{open_count, Situation}
-use Rattle.bpaf_line.specs.declared.error.Message.{Message}
-use Rattle.bpaf_laws.specs.Command.{opening_words, IsOpenedAt, Called, inside}
-use Rattle.bpaf_laws.specs.Reading.{Outcome}
-use Rattle.bpaf_line.specs.Failure.{end_message}
 use Rattle.bpaf_grammar.specs.Command.{EitherCommandOutcome, CommandOutcome, no_memory, missing}
-use Rattle.bpaf_grammar.specs.Command.{value}
-use Rattle.bpaf_grammar.specs.Command.{ended}
-use Rattle.bpaf.specs.Leftover.{not_expected, IsLeftover, only_once, conflict}
-use Rattle.bpaf.specs.Ending.{leftover as told_leftover, refused as told_refusal, passed_on, memory}
-use Rattle.bpaf.specs.Positional.{PositionalOutcome, PositionalFails, accepts}
-use Rattle.bpaf.specs.{Run.value as ran_value, Run.leftover, Run.refused, Run.Runs, Info.RunInfo}
-use Rattle.bpaf_grammar.specs.{declared.position.Position.Position, Ending.EndsRun, Ending.usage}
-use Rattle.bpaf_exact.proofs.ProgramForm.{program_command_law, narrower_form, no_more}
-use Rattle.bpaf_exact.proofs.Leaves.{stands_before, word_by_law, word_is}
-use Rattle.bpaf_exact.proofs.{Classes.memory_class, Classes.not_memory, Places.open_counted}
 use Rattle.bpaf_exact.specs.ProgramForm.{command_leftover, command_refused, command_missing, RunRan}
 use Rattle.bpaf_exact.specs.ProgramForm.{program_command, command_memory, command_value, word_fault}
 use Rattle.bpaf_exact.specs.ProgramForm.{word_memory, word_passed, run_refusal, run_memory, FormLaw}
 use Rattle.bpaf_exact.specs.ProgramForm.{word_missing, run_leftover, CommandEval, ProgramForm}
 use Rattle.bpaf_exact.specs.ProgramForm.{WordValue, word_read, IsNoValue, run_value, WordEval}
+use Rattle.std.proofs.Common.{Err, inl, inr, sym, ◌∙◌, not, Ok, ap, [], ℕ}
+use Rattle.bpaf_base.specs.{declared.arg.Arg.Arg, Items.word_text}
+use Rattle.bpaf_doc.specs.{Shape.Shape, Shape.Part, Names.Names}
+use Rattle.bpaf_line.specs.declared.error.Message.TheVariants.{Missing, Memory}
+use Rattle.bpaf_line.specs.{declared.failure.ParseFailure.ParseFailure, declared.error.Error.Error}
+use Rattle.bpaf_line.specs.{Situation.open_count, Situation.Situation, Failure.end_message}
+use Rattle.bpaf_line.specs.declared.error.Message.{Message}
+use Rattle.bpaf_laws.specs.Command.{opening_words, IsOpenedAt, Called, inside}
+use Rattle.bpaf_laws.specs.Reading.{Outcome}
+use Rattle.bpaf_grammar.specs.{declared.position.Position.Position, Ending.EndsRun, Ending.usage}
+use Rattle.bpaf_grammar.specs.Command.{value, ended}
+use Rattle.bpaf.specs.Ending.{leftover as told_leftover, refused as told_refusal, passed_on, memory}
+use Rattle.bpaf.specs.Leftover.{not_expected, IsLeftover, only_once, conflict}
+use Rattle.bpaf.specs.Positional.{PositionalOutcome, PositionalFails, accepts}
+use Rattle.bpaf.specs.{Run.value as ran_value, Run.leftover, Run.refused, Run.Runs, Info.RunInfo}
+use Rattle.bpaf_exact.proofs.ProgramForm.{program_command_law, narrower_form}
+use Rattle.bpaf_exact.proofs.Leaves.{stands_before, word_by_law, word_is}
+use Rattle.bpaf_exact.proofs.{Classes.memory_class, Classes.not_memory, Places.open_counted}
+use Rattle.bpaf_exact.proofs.Tables.{no_more}
 use Rattle.bpaf_exact.specs.{Flat.Variables, Flat.error_class, Flat.class, ProgramForm.word_by}
 use Rattle.bpaf_exact.specs.Pieces.{One}
 use Rattle.bpaf_record.specs.Record.{answer_of}

@@ -2,11 +2,12 @@
 use Rattle.std.specs.Prelude.{Bool, true, false, not, ◌&&◌, ◌||◌}
 use Rattle.bpaf_exact.specs.Flat.{FieldKind, ByName}
 use Rattle.bpaf_exact.specs.ProgramForm.{ProgramForm, no_program, alternative, single, complete}
-use Rattle.bpaf_exact.specs.ProgramForm.{product, commands, before_commands}
+use Rattle.bpaf_exact.specs.ProgramForm.{product, commands, before_commands, part, after_parts}
 use Rattle.bpaf_record.specs.declared.part.Kind.TheVariants.{Named, Word}
 use Rattle.bpaf_record.specs.declared.part.ProgramPart.TheVariants.{NoPart, Alternative, Single}
 use Rattle.bpaf_record.specs.declared.part.ProgramPart.TheVariants.{Complete, Product, Commands}
-use Rattle.bpaf_record.specs.declared.part.ProgramPart.TheVariants.{BeforeCommands}
+use Rattle.bpaf_record.specs.declared.part.ProgramPart.TheVariants.{BeforeCommands, Part}
+use Rattle.bpaf_record.specs.declared.part.ProgramPart.TheVariants.{AfterParts}
 use Rattle.bpaf_record.specs.{declared.part.Kind.Kind, declared.part.ProgramPart.ProgramPart}
 
 -- by a name, or a positional word
@@ -23,47 +24,61 @@ form_part (complete wide k q value) = Complete wide (kind_of k)
 form_part (product wide named q fields) = Product wide named
 form_part (commands optional value) = Commands optional
 form_part (before_commands value) = BeforeCommands
+form_part (part p) = Part
+form_part (after_parts value) = AfterParts
+
+-- it is a named part too
+abbrev pub has_named_part : ProgramPart → Bool
+has_named_part (Alternative wide) = true
+has_named_part (Single wide Named) = true
+has_named_part (Complete wide Named) = true
+has_named_part (Product wide named) = named
+has_named_part Part = true
+has_named_part _ = false
 
 -- where a test holds
 abbrev pub part_if : Bool → ProgramPart → ProgramPart
-part_if true part = part
-part_if false part = NoPart
+part_if true form = form
+part_if false form = NoPart
+
+-- a named part, where it is one
+abbrev pub as_part : ProgramPart → ProgramPart
+as_part form = part_if (has_named_part form) Part
 
 -- with a closure round it
 abbrev pub closed_part : ProgramPart → ProgramPart
-closed_part (Product wide named) = NoPart
-closed_part BeforeCommands = NoPart
-closed_part part = part
+closed_part (Product wide named) = part_if named Part
+closed_part form = form
 
 -- with another look
 abbrev pub dressed_part : ProgramPart → ProgramPart
 dressed_part (Product wide named) = Product true named
-dressed_part BeforeCommands = NoPart
-dressed_part part = part
+dressed_part form = form
 
 -- with a repeat or a default
 abbrev pub completed_part : ProgramPart → ProgramPart
 completed_part (Alternative wide) = Complete wide Named
 completed_part (Single wide kind) = Complete wide kind
-completed_part _ = NoPart
+completed_part form = as_part form
 
 -- what may be left out
 abbrev pub optional_part : ProgramPart → ProgramPart
 optional_part (Commands false) = Commands true
-optional_part part = completed_part part
+optional_part form = completed_part form
 
 -- the choice of two, by whether their keys and their words are apart
 abbrev pub chosen_part : Bool → Bool → ProgramPart → ProgramPart → ProgramPart
 chosen_part keys words (Alternative wide) (Alternative other) =
     part_if keys (Alternative (wide || other))
 chosen_part keys words (Commands false) (Commands false) = part_if words (Commands false)
-chosen_part keys words _ _ = NoPart
+chosen_part keys words one other =
+    part_if (keys && (has_named_part one && has_named_part other)) Part
 
 -- one parser of a choice
 abbrev pub only_part : ProgramPart → ProgramPart
 only_part (Alternative wide) = Alternative wide
 only_part (Commands false) = Commands false
-only_part _ = NoPart
+only_part form = as_part form
 
 -- as a field of a product
 abbrev pub field_part : ProgramPart → ProgramPart
@@ -72,7 +87,8 @@ field_part (Product wide true) = Complete true Named
 field_part (Product wide false) = Product true false
 field_part (Commands optional) = Commands optional
 field_part BeforeCommands = BeforeCommands
-field_part part = completed_part part
+field_part AfterParts = AfterParts
+field_part form = completed_part form
 
 -- it is named
 abbrev pub is_named_kind : Kind → Bool
@@ -85,6 +101,8 @@ last_part (Complete wide kind) = Product wide (is_named_kind kind)
 last_part (Product wide false) = Product wide false
 last_part (Commands optional) = BeforeCommands
 last_part BeforeCommands = BeforeCommands
+last_part Part = Part
+last_part AfterParts = AfterParts
 last_part _ = NoPart
 
 -- it may stand before others: of a named one the keys have to be apart, behind a word there is none
@@ -97,13 +115,19 @@ abbrev pub before_part : ProgramPart → ProgramPart → Bool → Bool → Progr
 before_part (Complete wide kind) (Product other named) apart none =
     part_if (may_stand kind apart none) (Product (wide || other) (is_named_kind kind && named))
 before_part (Complete wide Named) BeforeCommands apart none = part_if apart BeforeCommands
-before_part _ _ apart none = NoPart
+before_part (Complete wide Named) AfterParts apart none = part_if apart AfterParts
+before_part Part (Product wide false) apart none = part_if apart AfterParts
+before_part Part BeforeCommands apart none = part_if apart AfterParts
+before_part Part AfterParts apart none = part_if apart AfterParts
+before_part first rest apart none =
+    part_if (apart && (has_named_part first && has_named_part rest)) Part
 
 -- with a constructor
 abbrev pub made_part : ProgramPart → ProgramPart
 made_part (Product wide named) = Product wide named
 made_part BeforeCommands = BeforeCommands
-made_part _ = NoPart
+made_part AfterParts = AfterParts
+made_part form = as_part form
 
 -- a program
 abbrev pub is_program_part : ProgramPart → Bool
@@ -120,4 +144,4 @@ is_record_part _ = false
 
 -- behind the word of a command
 abbrev pub command_part : Bool → ProgramPart → ProgramPart
-command_part opens part = part_if (opens && is_program_part part) (Commands false)
+command_part opens form = part_if (opens && is_program_part form) (Commands false)

@@ -1,23 +1,19 @@
 -- Flat records and programs with commands, and their keys and words by the words that spell them.
 use Rattle.std.specs.Prelude.{IsUtf8, Result, Option, false, Bool, ◌&&◌, IfOk, List, true, None, Ok}
-use Rattle.std.specs.Prelude.{Some, ◌≡◌, All, Err, not}
-use Rattle.std.specs.Result.{IfErr}
-use Rattle.bpaf.specs.Run.{IsNotMemoryFailure}
-use Rattle.std.specs.{List.list_all, List.Contains, Prelude.ℕ}
-use Rattle.bpaf_base.specs.Items.{is_text_among, is_key_of, is_among}
-use Rattle.bpaf_base.specs.declared.arg.Arg.{Arg}
-use Rattle.bpaf_doc.specs.Names.{Names}
-use Rattle.bpaf_words.specs.Line.{Spells, Known, Items}
-use Rattle.bpaf_words.specs.Arguments.{Given}
-use Rattle.bpaf_line.specs.{declared.failure.ParseFailure.ParseFailure, Situation.Context}
-use Rattle.bpaf_line.specs.Taking.{IsContext}
-use Rattle.bpaf_laws.specs.Command.{is_one_of}
-use Rattle.bpaf.specs.{Marker.words_before, Info.RunInfo}
 use Rattle.bpaf_exact.specs.ProgramForm.{product_reading, product_roles, HoldsTogether, RecordValue}
 use Rattle.bpaf_exact.specs.ProgramForm.{whole_program, program_value, ProgramForm, is_program}
 use Rattle.bpaf_exact.specs.ProgramForm.{line_cells, RunAnswer, is_record, Accepted, NoMemory}
-use Rattle.bpaf_exact.specs.ProgramForm.{Refusal}
-use Rattle.bpaf_exact.specs.Pieces.{LinePiece, Cut}
+use Rattle.std.specs.Prelude.{Some, ◌≡◌, All, Err, not, ℕ}
+use Rattle.std.specs.{List.list_all, List.Contains, Result.IfErr}
+use Rattle.bpaf.specs.{Run.IsNotMemoryFailure, Marker.words_before, Info.RunInfo}
+use Rattle.bpaf_base.specs.Items.{is_text_among, is_key_of, is_among}
+use Rattle.bpaf_base.specs.declared.arg.Arg.{Arg}
+use Rattle.bpaf_doc.specs.Names.{Names}
+use Rattle.bpaf_words.specs.{Line.Spells, Line.Known, Line.Items, Arguments.Given}
+use Rattle.bpaf_line.specs.{declared.failure.ParseFailure.ParseFailure, Situation.Context}
+use Rattle.bpaf_line.specs.Taking.{IsContext}
+use Rattle.bpaf_laws.specs.Command.{is_one_of}
+use Rattle.bpaf_exact.specs.{Pieces.LinePiece, Pieces.Cut, ProgramForm.Refusal}
 use Rattle.bpaf_grammar.specs.Grammar.{Grammar}
 use Rattle.bpaf_record.specs.Program.{HasNoSurplus, program_form, are_unusual, scope_says}
 use Rattle.bpaf_line.specs.declared.failure.ParseFailure.TheVariants as failure

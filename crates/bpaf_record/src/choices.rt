@@ -1,11 +1,9 @@
 //! Choices of fields, and of commands.
 ghost use Rattle.std.specs.Prelude.{◌≡◌, ◌≤◌, flat_map, length, take, true};
 ghost use Rattle.std.specs.List.{list_all};
-ghost use Rattle.bpaf_exact.specs.{Flat.Variables};
-ghost use Rattle.bpaf_grammar.specs.Grammar.{choices_of, command_words, keys_of};
-ghost use Rattle.bpaf_record.specs.Program.{program_form};
-ghost use Rattle.bpaf_grammar.specs.Grammar.{only};
-ghost use Rattle.bpaf_record.specs.Part.{form_part};
+ghost use Rattle.bpaf_exact.specs.Flat.{Variables};
+ghost use Rattle.bpaf_grammar.specs.Grammar.{choices_of, command_words, keys_of, only};
+ghost use Rattle.bpaf_record.specs.{Program.program_form, Part.form_part};
 
 use crate::field::{FlatField, ProgramField};
 use crate::keys::{ApartFromField, KeyTest};

@@ -1,13 +1,12 @@
 //! Whether options are a program, perhaps with commands, and the run of one.
+ghost use Rattle.bpaf_record.specs.Record.{is_whole_program, AnswersAsProgram, TellsOfWords};
 ghost use Rattle.bpaf_grammar.specs.Words.{Answers, AnswersSpared, Deals, Refuses, names_of};
-ghost use Rattle.bpaf_record.specs.Program.{agrees_of};
+ghost use Rattle.bpaf_grammar.specs.Grammar.{keys_of};
+ghost use Rattle.bpaf_record.specs.Program.{agrees_of, program_form};
+ghost use Rattle.bpaf_record.specs.Record.{NoneUnless, ProgramRan};
 ghost use Rattle.std.specs.Prelude.{◌≡◌, Result, false, true, Bool, IfOk};
 ghost use Rattle.std.specs.Result.{IfErr};
 ghost use Rattle.bpaf_words.specs.Arguments.{given_of, Given};
-ghost use Rattle.bpaf_grammar.specs.Grammar.{keys_of};
-ghost use Rattle.bpaf_record.specs.Program.{program_form};
-ghost use Rattle.bpaf_record.specs.Record.{is_whole_program, AnswersAsProgram, TellsOfWords};
-ghost use Rattle.bpaf_record.specs.Record.{NoneUnless, ProgramRan};
 ghost use Rattle.bpaf_line.specs.declared.failure.ParseFailure.{ParseFailure};
 ghost use Rattle.bpaf.specs.Run.{IsNotMemoryFailure};
 ghost use Rattle.bpaf_exact.specs.Flat.{Variables};

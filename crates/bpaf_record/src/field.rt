@@ -12,8 +12,8 @@ use bpaf::{Fields, Parser};
 /// A parser that may be a field of a program, a command, or a program itself. Its grammar tells
 /// what it is to one (`program_form`), its keys and the words of its commands, and what its value
 /// says of the pieces that are its own (`says`), or of the cells of its scope where it ends in
-/// commands (`cells_say`). By the law of its form, `law_of`, what it answers and takes depends on what is
-/// its own alone.
+/// commands (`cells_say`). By the law of its form, `law_of`, what it answers and takes depends on
+/// what is its own alone.
 pub trait ProgramField<T>: Parser<T> {
     /// What it is to a program, which is the same in each environment. It takes no memory.
     fn part(&self) -> ProgramPart

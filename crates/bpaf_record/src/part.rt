@@ -3,7 +3,8 @@ ghost use Rattle.std.specs.Prelude.{◌≡◌};
 ghost use Rattle.bpaf_record.specs.Part.{before_part, chosen_part, closed_part, command_part};
 ghost use Rattle.bpaf_record.specs.Part.{completed_part, dressed_part, field_part, is_named_kind};
 ghost use Rattle.bpaf_record.specs.Part.{is_program_part, is_record_part, last_part, made_part};
-ghost use Rattle.bpaf_record.specs.Part.{may_stand, only_part, optional_part, part_if};
+ghost use Rattle.bpaf_record.specs.Part.{as_part, has_named_part, may_stand, only_part};
+ghost use Rattle.bpaf_record.specs.Part.{optional_part, part_if};
 
 /// What the items of a field are.
 #[derive(Clone, Copy)]
@@ -52,6 +53,10 @@ pub enum ProgramPart {
     Commands { optional: bool },
     /// Named fields, and then commands.
     BeforeCommands,
+    /// A named part that is no flat field or record.
+    Part,
+    /// Named parts, and then words or commands.
+    AfterParts,
 }
 
 impl ProgramPart {
@@ -62,12 +67,33 @@ impl ProgramPart {
         if test { self } else { ProgramPart::NoPart }
     }
 
-    /// With a closure round it: a field and commands stay what they are.
+    /// Whether it is a named part too.
+    pub(crate) fn has_named_part(self) -> bool
+        ensures { result ≡ has_named_part self }
+    {
+        match self {
+            ProgramPart::Single { kind, .. } | ProgramPart::Complete { kind, .. } =>
+                kind.is_named(),
+            ProgramPart::Product { named, .. } => named,
+            ProgramPart::Alternative { .. } | ProgramPart::Part => true,
+            _ => false,
+        }
+    }
+
+    /// A named part, where it is one, or nothing.
+    fn as_part(self) -> ProgramPart
+        ensures { result ≡ as_part self }
+    {
+        ProgramPart::Part.only_if(self.has_named_part())
+    }
+
+    /// With a closure round it: a field and commands stay what they are, and a product of named
+    /// fields is a part.
     pub(crate) fn closed(self) -> ProgramPart
         ensures { result ≡ closed_part self }
     {
         match self {
-            ProgramPart::Product { .. } | ProgramPart::BeforeCommands => ProgramPart::NoPart,
+            ProgramPart::Product { named, .. } => ProgramPart::Part.only_if(named),
             other => other,
         }
     }
@@ -78,7 +104,6 @@ impl ProgramPart {
     {
         match self {
             ProgramPart::Product { named, .. } => ProgramPart::Product { wide: true, named },
-            ProgramPart::BeforeCommands => ProgramPart::NoPart,
             other => other,
         }
     }
@@ -93,7 +118,7 @@ impl ProgramPart {
                 kind: Kind::Named,
             },
             ProgramPart::Single { wide, kind } => ProgramPart::Complete { wide, kind },
-            _ => ProgramPart::NoPart,
+            other => other.as_part(),
         }
     }
 
@@ -125,7 +150,10 @@ impl ProgramPart {
                 ProgramPart::Commands { optional: false },
                 ProgramPart::Commands { optional: false },
             ) => ProgramPart::Commands { optional: false }.only_if(words_apart),
-            _ => ProgramPart::NoPart,
+            (this, that) => {
+                let parts = this.has_named_part() && that.has_named_part();
+                ProgramPart::Part.only_if(keys_apart && parts)
+            }
         }
     }
 
@@ -135,7 +163,7 @@ impl ProgramPart {
     {
         match self {
             ProgramPart::Alternative { .. } | ProgramPart::Commands { optional: false } => self,
-            _ => ProgramPart::NoPart,
+            other => other.as_part(),
         }
     }
 
@@ -160,8 +188,11 @@ impl ProgramPart {
                 wide: true,
                 named: false,
             },
-            ProgramPart::Alternative { .. } | ProgramPart::Single { .. } => self.completed(),
-            other => other,
+            ProgramPart::Complete { .. }
+            | ProgramPart::Commands { .. }
+            | ProgramPart::BeforeCommands
+            | ProgramPart::AfterParts => self,
+            other => other.completed(),
         }
     }
 
@@ -178,6 +209,7 @@ impl ProgramPart {
             ProgramPart::Commands { .. } | ProgramPart::BeforeCommands => {
                 ProgramPart::BeforeCommands
             }
+            ProgramPart::Part | ProgramPart::AfterParts => self,
             _ => ProgramPart::NoPart,
         }
     }
@@ -200,7 +232,22 @@ impl ProgramPart {
                 },
                 ProgramPart::BeforeCommands,
             ) => ProgramPart::BeforeCommands.only_if(apart),
-            _ => ProgramPart::NoPart,
+            (
+                ProgramPart::Complete {
+                    kind: Kind::Named,
+                    ..
+                }
+                | ProgramPart::Part,
+                ProgramPart::AfterParts,
+            )
+            | (
+                ProgramPart::Part,
+                ProgramPart::Product { named: false, .. } | ProgramPart::BeforeCommands,
+            ) => ProgramPart::AfterParts.only_if(apart),
+            (first, rest) => {
+                let parts = first.has_named_part() && rest.has_named_part();
+                ProgramPart::Part.only_if(apart && parts)
+            }
         }
     }
 
@@ -209,8 +256,9 @@ impl ProgramPart {
         ensures { result ≡ made_part self }
     {
         match self {
-            ProgramPart::Product { .. } | ProgramPart::BeforeCommands => self,
-            _ => ProgramPart::NoPart,
+            ProgramPart::Product { .. } | ProgramPart::BeforeCommands | ProgramPart::AfterParts =>
+                self,
+            other => other.as_part(),
         }
     }
 

@@ -1,11 +1,10 @@
 //! Whether options are a flat record, and the run of one.
-ghost use Rattle.bpaf_grammar.specs.Words.{names_of};
+ghost use Rattle.bpaf_grammar.specs.{Grammar.keys_of, Words.names_of};
 ghost use Rattle.std.specs.Prelude.{◌≡◌, Result, false, true, Bool, IfOk};
 ghost use Rattle.std.specs.Result.{IfErr};
 ghost use Rattle.bpaf_words.specs.Arguments.{given_of, Given};
-ghost use Rattle.bpaf_grammar.specs.Grammar.{keys_of};
-ghost use Rattle.bpaf_record.specs.Program.{program_form};
 ghost use Rattle.bpaf_record.specs.Record.{is_flat_record, AnswersByFields, NoneUnless, ProgramRan};
+ghost use Rattle.bpaf_record.specs.Program.{program_form};
 ghost use Rattle.bpaf_line.specs.declared.failure.ParseFailure.{ParseFailure};
 ghost use Rattle.bpaf.specs.Run.{IsNotMemoryFailure};
 ghost use Rattle.bpaf_exact.specs.Flat.{Variables};

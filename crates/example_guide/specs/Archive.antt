@@ -51,8 +51,8 @@ archive_known = knowing (record { flags = codes "avqhV"; arguments = codes "orlj
 abbrev pub IsTyped : List ℕ → List (List ℕ) → Type 0
 IsTyped word words = Contains (words_before words) word
 
--- what it has was spelled, and what was spelled it has
-pub record SaysOf (words : List (List ℕ)) (archive : Archive) : Type 0 where
+-- what it has was spelled
+pub record WasToldBy (words : List (List ℕ)) (archive : Archive) : Type 0 where
   pub agreed : (archive.agreed ≡ true) × WasSpelled archive_known agree words
   pub out : WasSpelled archive_known out words
   pub root : WasSpelled archive_known root words
@@ -60,8 +60,11 @@ pub record SaysOf (words : List (List ℕ)) (archive : Archive) : Type 0 where
   pub jobs : archive.jobs ≢ 1 → WasSpelled archive_known jobs words
   pub without : archive.without.items ≢ [] → WasSpelled archive_known without words
   pub verbose : archive.verbose ≢ 0 → WasSpelled archive_known verbose words
-  pub has_level : IsTyped (codes "--level") words → IsSome archive.level
-  pub has_without : IsTyped (codes "--without") words → archive.without.items ≢ []
-  pub is_quiet : IsTyped (codes "-q") words → archive.quiet ≡ true
-  pub is_quiet_joined : IsTyped (codes "-vq") words → archive.quiet ≡ true
-  pub has_without_joined : IsTyped (codes "-qx1") words → archive.without.items ≢ []
+
+-- what was spelled it has
+pub record HasSpelled (words : List (List ℕ)) (archive : Archive) : Type 0 where
+  pub level : IsTyped (codes "--level") words → IsSome archive.level
+  pub without : IsTyped (codes "--without") words → archive.without.items ≢ []
+  pub quiet : IsTyped (codes "-q") words → archive.quiet ≡ true
+  pub quiet_joined : IsTyped (codes "-vq") words → archive.quiet ≡ true
+  pub without_joined : IsTyped (codes "-qx1") words → archive.without.items ≢ []

@@ -1,6 +1,6 @@
 //! What an archiver is told, of which is known, option by option, what it says of the words.
 ghost use Rattle.std.specs.Prelude.{IfOk, map, string_bytes};
-ghost use Rattle.example_guide.specs.Archive.{SaysOf};
+ghost use Rattle.example_guide.specs.Archive.{HasSpelled, WasToldBy};
 
 use bpaf::{Args, ParseFailure, Parser, construct, key};
 use bpaf_record::Record;
@@ -21,7 +21,8 @@ pub struct Archive {
 
 /// The archive that the words tell. What it has was spelled, and what was spelled it has.
 pub fn read_archive(alloc: Global, words: &[String]) -> Result<Archive, ParseFailure>
-    ensures { IfOk result (SaysOf (map string_bytes words.now)) }
+    ensures told { IfOk result (WasToldBy (map string_bytes words.now)) }
+    ensures spelled { IfOk result (HasSpelled (map string_bytes words.now)) }
 {
     let agreed = key(alloc, 'a', "agree").req_flag(true);
     let out = key(alloc, 'o', "out").argument::<String>("FILE");

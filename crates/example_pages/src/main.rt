@@ -153,9 +153,17 @@ fn tell_exclusive(rt: &HostRuntime) -> io::Result<()> {
     tell(rt, "login", shapes::read_login(alloc, &login))?;
     tell(rt, "login", shapes::read_login(alloc, &login[..2]))?;
     tell(rt, "login", shapes::read_login(alloc, &[]))?;
+    let range = ["--to", "5", "--from", "3"];
+    tell(rt, "range", shapes::read_range(alloc, &range))?;
+    let range = ["--from", "5", "--to", "3"];
+    tell(rt, "range", shapes::read_range(alloc, &range))?;
     let chosen = ["--only", "a", "--all"];
     tell(rt, "chosen", shapes::read_chosen(alloc, &chosen[..2]))?;
-    tell(rt, "chosen", shapes::read_chosen(alloc, &chosen))
+    tell(rt, "chosen", shapes::read_chosen(alloc, &chosen))?;
+    let server = ["--host", "h", "--owner", "ann", "--socket", "s"];
+    tell(rt, "server", shapes::read_server(alloc, &server[..2]))?;
+    tell(rt, "server", shapes::read_server(alloc, &server[2..]))?;
+    tell(rt, "server", shapes::read_server(alloc, &server))
 }
 
 /// Tells what usual shapes read.

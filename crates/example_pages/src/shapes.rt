@@ -2,6 +2,7 @@
 use bpaf::params::{ParseFlag, ParsePositional};
 use bpaf::{Args, ParseFailure, ParseTuple2, Parser, construct, long_key, positional, short_key};
 use bpaf_program::plain_command;
+use bpaf_record::CommandLine;
 use std::alloc::Global;
 
 /// A command of the command `remote`.
@@ -58,7 +59,15 @@ pub fn read_login(alloc: Global, words: &[&str]) -> Result<Option<Login>, ParseF
     let user = long_key(alloc, "user").argument::<String>("USER");
     let password = long_key(alloc, "password").argument::<String>("TEXT");
     let login = construct!(user, password).optional();
-    login.run_once(alloc, Args::from(words))
+    login.into_options(alloc).run_program(Args::from(words))
+}
+
+/// Two options of which one bounds the other.
+pub fn read_range(alloc: Global, words: &[&str]) -> Result<(u64, u64), ParseFailure> {
+    let from = long_key(alloc, "from").argument::<u64>("N");
+    let to = long_key(alloc, "to").argument::<u64>("N");
+    let range = construct!(from, to).guard(|it| it.0 <= it.1, "`--from` is above `--to`");
+    range.into_options(alloc).run_program(Args::from(words))
 }
 
 /// Whether all files are chosen, or the names of those that are.
@@ -68,9 +77,30 @@ pub type Chosen = (bool, Vec<String>);
 pub fn read_chosen(alloc: Global, words: &[&str]) -> Result<Chosen, ParseFailure> {
     let all = long_key(alloc, "all").switch();
     let only = long_key(alloc, "only").argument::<String>("NAME").many();
-    let chosen = construct!(all, only);
-    let chosen = chosen.guard(|it| !it.0 || it.1.is_empty(), "`--all` excludes `--only`");
-    chosen.run_once(alloc, Args::from(words))
+    let chosen = construct!(all, only).guard(
+        |it| !it.0 || it.1.is_empty(),
+        "`--all` excludes `--only`",
+    );
+    chosen.into_options(alloc).run_program(Args::from(words))
+}
+
+/// Where a server is.
+#[derive(Debug, Drop)]
+pub enum Server {
+    Remote(String, Option<u64>),
+    Local(String, String),
+}
+
+/// One of two groups of options.
+pub fn read_server(alloc: Global, words: &[&str]) -> Result<Server, ParseFailure> {
+    let host = long_key(alloc, "host").argument::<String>("HOST");
+    let port = long_key(alloc, "port").argument::<u64>("N").optional();
+    let remote = construct!(Server::Remote(host, port));
+    let socket = long_key(alloc, "socket").argument::<String>("PATH");
+    let owner = long_key(alloc, "owner").argument::<String>("USER");
+    let local = construct!(Server::Local(socket, owner));
+    let server = construct!([remote, local]);
+    server.into_options(alloc).run_program(Args::from(words))
 }
 
 /// A switch and a word, whose parser a function answers.

@@ -24,6 +24,8 @@ mod not_programs;
 #[cfg(test)]
 mod numbers;
 #[cfg(test)]
+mod part_rows;
+#[cfg(test)]
 mod program_rows;
 #[cfg(test)]
 mod record_rows;

@@ -1,14 +1,17 @@
 //! Which options are no program with commands. What runs as one is one.
-use bpaf::params::{ParseFlag, ParsePositional};
+use bpaf::params::{ParseArgument, ParseFlag, ParsePositional};
 use bpaf::parsers::ParseCommand;
-use bpaf::{Parser, choice, construct, positional};
+use bpaf::{ParseTuple2, Parser, choice, construct, positional};
 use bpaf_record::{CommandLine, ProgramField};
 use std::alloc::{AllocError, Global};
 use std::test::Fail;
-use test_support::switch;
+use test_support::{number, switch};
 
 /// A command over a switch.
 type Opening = ParseCommand<bool, ParseFlag<bool>>;
+
+/// A group of two numbers.
+type Group = ParseTuple2<u64, u64, ParseArgument<u64>, ParseArgument<u64>>;
 
 /// Words of commands, each with the name of the switch inside.
 type Called<'a> = &'a [(&'a str, char)];
@@ -111,6 +114,8 @@ fn is_one_product(alloc: Global) -> Result<bool, AllocError> {
     Ok(
         // no_program_command_first
         are_whole(alloc, add(alloc)?, switch(alloc, 'v')?)?
+            // no_program_field_behind_a_word
+            || are_whole(alloc, word(), switch(alloc, 'v')?)?
             // no_program_word_before_command
             || are_whole(alloc, word(), add(alloc)?)?
             // no_program_shared_name
@@ -142,15 +147,64 @@ fn is_one_inside(alloc: Global) -> Result<bool, AllocError> {
         // no_program_product_before_command
         are_round_whole(alloc, switch(alloc, 'v')?, word(), true)?
             // no_program_product_with_closure
-            || are_round_whole(alloc, switch(alloc, 'q')?, add(alloc)?, false)?,
+            || are_round_whole(alloc, switch(alloc, 'q')?, word(), false)?,
     )
 }
 
-/// Of a command that may be left out and catches, and of one under a repeat, whether one is.
+/// Whether a choice of two parsers is one.
+fn is_either_one_whole<T: Drop, P: ProgramField<T> + Drop, Q: ProgramField<T> + Drop>(
+    alloc: Global,
+    first: P,
+    second: Q,
+) -> Result<bool, AllocError> {
+    is_whole(alloc, construct!([first, second]))
+}
+
+/// A group of two numbers.
+fn group(alloc: Global, first: char, second: char) -> Result<Group, AllocError> {
+    let first = number(alloc, first)?;
+    let second = number(alloc, second)?;
+    Ok(construct!(first, second))
+}
+
+/// Of choices that mix what is none of one kind, whether one is: of groups that share a name, and of
+/// a number and a word, or a command.
+fn is_one_mixed(alloc: Global) -> Result<bool, AllocError> {
+    let far = positional::<u64>("FAR");
+    let jump = number(alloc, 'n')?.to_options(alloc)?.command("jump")?;
+    Ok(
+        // no_program_part_shared_name
+        is_either_one_whole(alloc, group(alloc, 'a', 'b')?, group(alloc, 'a', 'c')?)?
+            // no_program_choice_with_a_word
+            || is_either_one_whole(alloc, number(alloc, 'a')?, far)?
+            // no_program_choice_with_a_command
+            || is_either_one_whole(alloc, number(alloc, 'a')?, jump)?,
+    )
+}
+
+/// Whether two fields that may be left out together are one, or where one of them catches.
+fn are_optional_whole<A: Drop, B: Drop, P: ProgramField<A> + Drop, Q: ProgramField<B> + Drop>(
+    alloc: Global,
+    first: P,
+    second: Q,
+    catch: bool,
+) -> Result<bool, AllocError> {
+    let both = construct!(first, second).optional();
+    is_whole(alloc, if catch { both.catch() } else { both })
+}
+
+/// Of what may be left out or is repeated where that is none, whether one is.
 fn is_one_wrapped(alloc: Global) -> Result<bool, AllocError> {
     Ok(
         // no_program_catch
         is_whole(alloc, add(alloc)?.optional().catch())?
+            || are_optional_whole(alloc, number(alloc, 'a')?, number(alloc, 'b')?, true)?
+            // no_program_optional_word
+            || are_optional_whole(alloc, number(alloc, 'a')?, word(), false)?
+            // no_program_optional_product_with_a_command
+            || are_optional_whole(alloc, switch(alloc, 'v')?, add(alloc)?, false)?
+            // no_program_repeated_twice
+            || is_whole(alloc, word().optional().many())?
             // no_program_repeated_command
             || is_whole(alloc, add(alloc)?.many())?,
     )
@@ -163,6 +217,7 @@ fn is_one_whole(alloc: Global) -> Result<bool, AllocError> {
             || is_one_choice(alloc)?
             || is_one_product(alloc)?
             || is_one_inside(alloc)?
+            || is_one_mixed(alloc)?
             || is_one_wrapped(alloc)?,
     )
 }

@@ -1,9 +1,8 @@
 use Rattle.std.proofs.Common.{sym, arith, ◌∙◌, ap, ap₂, take, true}
 use Rattle.std.proofs.lemmas.List.{take_all}
-use Rattle.bpaf_exact.specs.{Pieces.are_all_apart, ProgramForm.are_words_apart}
+use Rattle.bpaf_exact.specs.{ProgramForm.are_words_apart, Pieces.are_all_apart}
 use Rattle.bpaf_grammar.specs.Grammar.{choice, choices_of, command_words, keys_of}
-use Rattle.bpaf_record.specs.Program.{program_form}
-use Rattle.bpaf_record.specs.Part.{chosen_part, form_part}
+use Rattle.bpaf_record.specs.{Part.chosen_part, Part.form_part, Program.program_form}
 use Rattle.bpaf_record.proofs.Parts.{choices_keys, choices_words, one_more, choice_part_is}
 use Rattle.bpaf_record.proofs.choices.join_rest.Goals as goal
 
@@ -19,9 +18,9 @@ loop-index-preserved g c = (
       (λ words. are_words_apart words (command_words (of d))) (sym (choices_words of (take i ps))))
       ∙ (ap₂ (chosen_part (are_all_apart (keys_of before true) (keys_of (of d) true))
       (are_words_apart (command_words before) (command_words (of d))))
-      (c.loop-index.invariant.1 variables) (c.part.ensures variables) ∙ (choice_part_is
-      (keys_of before true) (keys_of (of d) true) (command_words before) (command_words (of d))
-      (program_form before variables) (program_form (of d) variables) ∙ ap
+      (c.loop-index.invariant.1 variables) (c.part.ensures variables)
+      ∙ (choice_part_is before (of d)
+      variables ∙ ap
       (λ g. form_part (program_form g variables)) (ap (λ p. choice before (of p))
       c.index-parsers-index.is ∙ sym
       (one_more of ps i d c.loop-index.invariant.0 c.loop-index-test.true))))),

@@ -9,13 +9,12 @@ use Rattle.bpaf_program.proofs.Running.{are_texts}
 use Rattle.example_guide.specs.Archive as archive
 use Rattle.example_guide.proofs.archive.read_archive.Goals as goal
 
-pub returns : goal.returns
-returns c =
-    let words = map string_bytes c.args.words.now in
-    let texts = are_texts c.args.words.now in
+pub returns-clause-told : goal.returns-clause-told
+returns-clause-told c =
     answer_says c.run_record.result
     (c.run_record.ensures.fields (tt, (tt, (tt, (tt, (tt, (tt, (tt, tt))))))))
-    (λ v told. told_of_line told refl archive.archive_known (search rules) words (search rules) (λ os line said.
+    (λ v told. told_of_line told refl archive.archive_known (search rules)
+    (map string_bytes c.args.words.now) (search rules) (λ os line said.
     let fields = said.fields in
     let agreed = flag_spelled (of_line line) fields.0 (search rules) (search rules) archive.agree
     (search rules) in
@@ -35,21 +34,34 @@ returns c =
       verbose = λ some. repeat_spelled (of_line line) (flag_needs (search rules) (search rules))
           verbose.told verbose.from refl (λ empty. some (search rules)) archive.verbose
           (search rules);
-      has_level = λ typed. spelled_optional line fields.1.1.1.0 v.level (search rules)
+    }))
+
+pub returns-clause-spelled : goal.returns-clause-spelled
+returns-clause-spelled c =
+    let words = map string_bytes c.args.words.now in
+    let texts = are_texts c.args.words.now in
+    answer_says c.run_record.result
+    (c.run_record.ensures.fields (tt, (tt, (tt, (tt, (tt, (tt, (tt, tt))))))))
+    (λ v told. told_of_line told refl archive.archive_known (search rules) words (search rules)
+    (λ os line said.
+    let fields = said.fields in
+    let without = fields.1.1.1.1.1.0 in
+    record {
+      level = λ typed. spelled_optional line fields.1.1.1.0 v.level (search rules)
           archive.level (search rules) texts
           (long_is_spelled _ archive.level words (codes "level") typed refl refl);
-      has_without = λ typed. spelled_repeat line without.told v.without.items (search rules)
+      without = λ typed. spelled_repeat line without.told v.without.items (search rules)
           archive.without (search rules) texts
           (long_is_spelled _ archive.without words (codes "without") typed refl refl);
-      is_quiet = λ typed. spelled_switch line fields.1.1.1.1.1.1.1 (search rules) v.quiet
+      quiet = λ typed. spelled_switch line fields.1.1.1.1.1.1.1 (search rules) v.quiet
           (search rules) archive.quiet (search rules) texts
           (short_is_spelled _ (search rules) archive.quiet words 113 typed (omega arith)
           (λ dash. cc) refl);
-      is_quiet_joined = λ typed. spelled_switch line fields.1.1.1.1.1.1.1 (search rules) v.quiet
+      quiet_joined = λ typed. spelled_switch line fields.1.1.1.1.1.1.1 (search rules) v.quiet
           (search rules) archive.quiet (search rules) texts
           (flags_are_spelled archive.archive_known refl archive.quiet words 118 113 [] typed
           (λ dash. cc) refl refl refl);
-      has_without_joined = λ typed. spelled_repeat line without.told v.without.items
+      without_joined = λ typed. spelled_repeat line without.told v.without.items
           (search rules) archive.without (search rules) texts
           (value_is_spelled archive.archive_known refl archive.without words 113 120 (49 ∷ [])
           (113 ∷ []) 120 (49 ∷ []) refl typed (λ dash. cc) refl refl refl refl refl);

@@ -1,30 +1,21 @@
 use Rattle.std.proofs.Common.{refl, rules, map, string_bytes}
-use Rattle.bpaf_exact.proofs.OneView.{argument_one, closed_one, closure_agrees, number_one}
 use Rattle.bpaf_exact.proofs.Says.{argument_needs, made_needs}
+use Rattle.bpaf_program.proofs.LookAlike.{number_seen}
+use Rattle.bpaf_record.proofs.LookAlike.{closed_once, decides_once}
 use Rattle.bpaf_record.proofs.Answered.{answer_says, of_line, value_spelled, told_of_line}
 use Rattle.example_guide.specs.Dim.{dimming_known, percent_names}
 use Rattle.example_guide.proofs.dim.read_dimming.Goals as goal
 
 pub returns : goal.returns
 returns c =
-    let fields = c.into_options-options.result.inner.fields in
     answer_says c.run_record.result (c.run_record.ensures.fields (
       (
-        (
-          tt,
-          λ variables. closure_agrees _ (λ x v made refused. search rules) _
-              (argument_one (number_one 64) fields.first.inner.inner variables),
-        ),
-        λ variables. closure_agrees _ (λ x v made refused. search rules) _
-            (closed_one _ (λ x v made refused. search rules) (λ x v w one other. search rules) _
-            (argument_one (number_one 64) fields.first.inner.inner variables)),
+        (tt, decides_once (λ x v made refused. search rules) number_seen),
+        decides_once (λ x v made refused. search rules) (closed_once
+            (λ x v made refused. search rules) (λ x v w one other. search rules) number_seen),
       ),
       (
-        (
-          tt,
-          λ variables. closure_agrees _ (λ x v made refused. search rules) _
-              (argument_one (number_one 64) fields.rest.first.inner variables),
-        ),
+        (tt, decides_once (λ x v made refused. search rules) number_seen),
         (tt, λ v fault made refused. search rules),
       ),
     ))

@@ -1,6 +1,3 @@
-use Rattle.std.proofs.Common.{true}
-use Rattle.bpaf_grammar.specs.Grammar.{command_words, keys_of}
-use Rattle.bpaf_record.specs.Program.{program_form}
 use Rattle.bpaf_record.proofs.Parts.{choice_part_is}
 use Rattle.bpaf_record.proofs.choices.ParseOrElseProgramField.part.Goals as goal
 
@@ -14,6 +11,4 @@ returns g c variables =
       c.all_words-words_apart.ensures,
       c.part.ensures variables,
       c.part-2.ensures variables,
-    ) (choice_part_is
-    (keys_of this true) (keys_of that true) (command_words this) (command_words that)
-    (program_form this variables) (program_form that variables))
+    ) (choice_part_is this that variables)

@@ -1,9 +1,8 @@
-use Rattle.bpaf_grammar.specs.Grammar.{describes_of, keys_of}
+use Rattle.bpaf_grammar.specs.{Grammar.describes_of, Grammar.keys_of, Words.names_of}
 use Rattle.std.proofs.Common.{arith, false}
 use Rattle.bpaf_words.specs.Arguments.{given_of}
-use Rattle.bpaf_record.proofs.FormLaws.{law_of}
-use Rattle.bpaf_grammar.specs.Words.{names_of}
 use Rattle.bpaf_record.proofs.Running.{answers_as_program, is_program_form, tells_of_words}
+use Rattle.bpaf_record.proofs.FormLaws.{law_of}
 use Rattle.bpaf_record.specs.Program.{program_form}
 use Rattle.bpaf_record.proofs.command_line.OptionParserCommandLine.run_program.Goals as goal
 

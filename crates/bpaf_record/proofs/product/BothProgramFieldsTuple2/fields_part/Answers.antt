@@ -1,6 +1,3 @@
-use Rattle.std.proofs.Common.{true}
-use Rattle.bpaf_grammar.specs.Grammar.{keys_of}
-use Rattle.bpaf_record.specs.Program.{program_form}
 use Rattle.bpaf_record.proofs.Parts.{both_part_is}
 use Rattle.bpaf_record.proofs.product.BothProgramFieldsTuple2.fields_part.Goals as goal
 
@@ -15,6 +12,4 @@ returns g c variables =
       c.field.ensures,
       c.part.ensures variables,
       c.fields_part-rest.ensures variables,
-    ) (both_part_is
-    (keys_of first true) (keys_of rest true) (program_form first variables)
-    (program_form rest variables))
+    ) (both_part_is first rest variables)

@@ -1,10 +1,8 @@
-use Rattle.bpaf_grammar.specs.Grammar.{describes_of, keys_of}
+use Rattle.bpaf_grammar.specs.{Grammar.describes_of, Grammar.keys_of, Words.names_of}
 use Rattle.std.proofs.Common.{false}
 use Rattle.bpaf_words.specs.Arguments.{given_of}
-use Rattle.bpaf_record.proofs.FormLaws.{law_of}
-use Rattle.bpaf_grammar.specs.Words.{names_of}
+use Rattle.bpaf_record.proofs.{Running.answers_by_fields, Running.is_flat_form, FormLaws.law_of}
 use Rattle.bpaf_record.specs.Program.{program_form}
-use Rattle.bpaf_record.proofs.Running.{answers_by_fields, is_flat_form}
 use Rattle.bpaf_record.proofs.record.OptionParserRecord.run_record.Goals as goal
 
 pub returns-clause-by_fields : goal.returns-clause-by_fields
