@@ -1,8 +1,8 @@
 -- What taking pieces does to the other pieces and to the cut; that at most one cut exists, and a
 -- value is read off one; cuts of words alone; the first piece, of two fields together too; and that
 -- a cut line holds together.
-use Rattle.std.proofs.Common.{if◌then◌else◌, Option, length, ⊎_elim, arith, false, List, None, Some}
-use Rattle.std.proofs.Common.{refl, true, ◌++◌, inl, inr, not, sym, ◌<◌, ◌∙◌, ◌∷◌, ◌≡◌, ◌⊎◌, [], ap}
+use Rattle.std.proofs.Common.{if◌then◌else◌, Option, ⊎_elim, arith, false, List, None, Some}
+use Rattle.std.proofs.Common.{refl, true, ◌++◌, inl, inr, not, sym, ◌∙◌, ◌∷◌, ◌≡◌, ◌⊎◌, [], ap}
 use Rattle.std.proofs.lemmas.List.Elements.{filter-append, All-cons, All-nil}
 use Rattle.std.proofs.{lemmas.Bool.false_from_ne_true, lemmas.List.append_assoc, Common.ℕ}
 use Rattle.std.specs.List.{AllPass}
@@ -301,31 +301,6 @@ takes_nonempty {q} (takes_two {k} {w} {cs} e v) h =
 takes_nonempty (takes_later {c = None} t) h = takes_nonempty t h
 takes_nonempty {q} (takes_later {c = Some k} {cs} t) h = takes_nonempty t (nil_rest (q k) k cs h)
 
--- where another piece than the first is taken, that stays the first
-pub head_stays : {q : Roles} {cs ds : Cells} {taken o : LinePiece} {os : List LinePiece}
-    → IsNamed q → TakesPiece q cs taken ds → pieces q cs ≡ o ∷ os → (taken ≡ o → ⊥)
-    → (ps : List LinePiece) × (pieces q ds ≡ o ∷ ps)
-head_stays {q} n (takes_one {k} {cs} e) h other =
-    let a = begin_at k cs (pieces q cs) e in absurd (other cc)
-head_stays n (takes_two {cs} e v) h other = let a = pair_pieces cs n e v in absurd (other cc)
-head_stays n (takes_later {c = None} t) h other = head_stays n t h other
-head_stays {q} {o} {os} n (takes_later {c = Some k} {cs} {ds} t) h other =
-    by_role (q k) refl (λ e. head_stays n t e other)
-  where
-    by_role : (x : Role) → q k ≡ x
-        → (pieces q cs ≡ o ∷ os → (ps : List LinePiece) × (pieces q ds ≡ o ∷ ps))
-        → (ps : List LinePiece) × (pieces q (Some k ∷ ds) ≡ o ∷ ps)
-    by_role Foreign e on = grind (arith, begin_at)
-    by_role Alone e on =
-        let a = begin_at k cs (pieces q cs) e in
-        let b = begin_at k ds (pieces q ds) e in
-        (pieces q ds, cc)
-    by_role WithNext e on =
-        let a = begin_at k cs (pieces q cs) e in
-        let b = begin_at k ds (pieces q ds) e in
-        let c = same_next k n t in
-        (pieces q ds, cc)
-
 -- the items of two fields together
 pub record Union (qa qb r : Roles) : Type 0 where
   pub apart : Apart qa qb
@@ -406,23 +381,6 @@ owner {qa} {qb} {r} (Some k ∷ cs) {o} u e =
     by_owner (to_second h g f) i = inr (own_head qb (qb k) refl g h)
     by_owner (to_none f g h) i = grind (arith, begin_at)
 
--- An item that isn't the first field's own, before the first piece, isn't the other's either.
-not_either : {qa qb r : Roles} {k : Arg} (cs : Cells) {o : LinePiece} {os : List LinePiece}
-    → Union qa qb r → qa k ≡ Foreign → is_own qa o ≡ true → pieces r (Some k ∷ cs) ≡ o ∷ os
-    → (r k ≡ Foreign) × (pieces r cs ≡ o ∷ os)
-not_either cs u f h e = grind (arith, begin_at, belongs, own_next, to_first, to_none, to_second)
-
--- Where the first piece of both is the first field's, the first field's first is the first of both.
-pub first_mine : {qa qb r : Roles} {cs ds : Cells} {oa o : LinePiece} {os : List LinePiece}
-    → Union qa qb r → pieces r cs ≡ o ∷ os → is_own qa o ≡ true → TakesFirst qa cs oa ds
-    → TakesFirst r cs oa ds
-first_mine u e h (first_one x) = first_one (left_role u refl x)
-first_mine u e h (first_two x v) = first_two (left_role u refl x) v
-first_mine u e h (first_later {c = None} n t) = first_later tt (first_mine u e h t)
-first_mine u e h (first_later {c = Some k} {cs} n t) =
-    let d = not_either cs u n h e in
-    first_later d.0 (first_mine u d.1 h t)
-
 -- where neither has a piece both have none
 pub both_nil : {qa qb r : Roles} (cs : Cells) → Union qa qb r → pieces qa cs ≡ []
     → pieces qb cs ≡ [] → pieces r cs ≡ []
@@ -443,45 +401,6 @@ pub data TookLeft : Cells → Cells → Type 0 where
   left_here : {x : Arg} {cs ds : Cells} → TookLeft (None ∷ cs) (Some x ∷ ds)
   left_later : {c d : Option Arg} {cs ds : Cells} → c ≡ d → TookLeft cs ds
       → TookLeft (c ∷ cs) (d ∷ ds)
-
--- If the second field took the first piece of both, the first field took nothing further left.
-pub not_left : {qa qb r : Roles} {cs ca cb : Cells} {oa ob o : LinePiece} {os : List LinePiece}
-    → Union qa qb r → pieces r cs ≡ o ∷ os → is_own qb o ≡ true → TakesPiece qa cs oa ca
-    → TakesFirst qb cs ob cb → TookLeft ca cb → ⊥
-not_left u e h (takes_later t) (first_one x) (left_later same l) = cc
-not_left u e h (takes_later t) (first_two x v) (left_later same l) = cc
-not_left u e h (takes_later {c = None} t) (first_later n s) (left_later same l) =
-    not_left u e h t s l
-not_left {qa} {qb} {r} u e h (takes_later {c = Some k} {cs} t) (first_later n s)
-    (left_later same l) = not_left u (not_either cs (swap_union u) n h e).1 h t s l
-not_left u e h (takes_one {k} x) (first_one y) l = let z = u.apart.left k (ap is_own_role x) in cc
-not_left u e h (takes_one {k} x) (first_two y v) l = let z = u.apart.left k (ap is_own_role x) in cc
-not_left {qa} {qb} {r} u e h (takes_one {k} {cs} x) (first_later n s) l =
-    let d = not_either cs (swap_union u) n h e in
-    let f = u.left k (ap is_own_role x) in
-    let g = d.0 in
-    cc
-not_left u e h (takes_two {k} x w) (first_one y) l = let z = u.apart.left k (ap is_own_role x) in cc
-not_left u e h (takes_two {k} x w) (first_two y v) l =
-    let z = u.apart.left k (ap is_own_role x) in cc
-not_left {qa} {qb} {r} u e h (takes_two {k} {w = j} {cs} x w) (first_later n s) l =
-    let d = not_either (Some j ∷ cs) (swap_union u) n h e in
-    let f = u.left k (ap is_own_role x) in
-    let g = d.0 in
-    cc
-
--- taking a piece leaves fewer
-takes_shorter : {q : Roles} {cs ds : Cells} {o : LinePiece} → IsNamed q → TakesPiece q cs o ds
-    → length (pieces q ds) < length (pieces q cs)
-takes_shorter {q} n (takes_one {k} {cs} e) = grind (arith, begin_at)
-takes_shorter n (takes_two {cs} e v) = let d = ap length (pair_pieces cs n e v) in omega arith
-takes_shorter n (takes_later {c = None} t) = takes_shorter n t
-takes_shorter {q} n (takes_later {c = Some k} {cs} {ds} t) = grind (arith, takes_shorter n t)
-
--- two that share no item never leave the same cells
-pub never_same : {qa qb r : Roles} {cs ca cb : Cells} {oa ob : LinePiece} → Union qa qb r
-    → TakesPiece qa cs oa ca → TakesPiece qb cs ob cb → ca ≡ cb → ⊥
-never_same u s t e = grind (arith, takes_shorter, keeps_other)
 
 -- A cut line holds together.
 module _ (r : Roles) (n : IsNamed r) where

@@ -21,10 +21,13 @@ pub mod PartWrapped
 pub mod PartRepeat
 pub mod PartChoice
 pub mod PartBefore
+pub mod LastChoices
 pub mod PartKeys
 pub mod PartFlags
 pub mod PartArguments
 pub mod PartLast
 pub mod PartForms
 pub mod PartView
+pub mod LastView
 pub mod PartReads
+pub mod PartMade

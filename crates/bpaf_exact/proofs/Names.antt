@@ -16,11 +16,11 @@ use Rattle.bpaf_base.specs.declared.arg.Arg.{Arg}
 use Rattle.bpaf_doc.specs.Names.{Names}
 use Rattle.bpaf_exact.specs.Pieces.{takes_argument, are_all_apart, is_key_of_any, either_role, Role}
 use Rattle.bpaf_exact.specs.Pieces.{is_own, others, passed, Apart, Cells, Roles, Takes, Cut}
-use Rattle.bpaf_exact.specs.Pieces.{LinePiece, argument, no_cells, Foreign, pieces, at_end, either}
+use Rattle.bpaf_exact.specs.Pieces.{LinePiece, argument, no_cells, Foreign, at_end, either}
 use Rattle.bpaf_exact.specs.Pieces.{empty_stays, is_own_role, other_stays, takes_flag, are_apart}
 use Rattle.bpaf_exact.specs.Pieces.{flag, mine, word, Owns}
 use Rattle.bpaf_exact.specs.Says.{first_item, EachOwn, unkeyed, keyed, OwnBy}
-use Rattle.bpaf_exact.specs.Flat.{NoKeysLeft, FieldKind, is_behind, repeated, EachWord, OneWord}
+use Rattle.bpaf_exact.specs.Flat.{FieldKind, is_behind, repeated, EachWord, OneWord}
 use Rattle.bpaf_exact.specs.{Flat.ByName, Flat.front, Flat.back, ProgramForm.may_follow}
 
 -- where a test holds of each element of a list, and another of one, both hold of one
@@ -75,6 +75,14 @@ either_owns {q} {r} {keys} {others} a b = record {
   own = λ k e. list_any-append (λ names. is_key_of names k) keys others ∙ ⊎_elim
       (λ (one : is_own_role (q k) ≡ true). or_left _ (is_key_of_any others k) (a.own k one))
       (λ (other : is_own_role (r k) ≡ true). or_right (is_key_of_any keys k) _ (b.own k other))
+      (or_cases (is_own_role (q k)) (is_own_role (r k)) (sym (either_own (q k) (r k)) ∙ e));
+}
+
+-- two fields with these keys together
+pub both_own : {q r : Roles} {keys : List Names} → Owns q keys → Owns r keys
+    → Owns (either q r) keys
+both_own {q} {r} a b = record {
+  own = λ k e. ⊎_elim (a.own k) (b.own k)
       (or_cases (is_own_role (q k)) (is_own_role (r k)) (sym (either_own (q k) (r k)) ∙ e));
 }
 
@@ -311,11 +319,6 @@ all_front k {os} none =
 -- where a repeat of a field takes none, nor does the field
 pub nil_each : (k : FieldKind) (os : List LinePiece) → front (repeated k) os ≡ [] → front k os ≡ []
 nil_each x os none = grind arith
-
--- where nothing but what a field leaves is left, none of a named field's keys is
-pub no_keys_left : (k : FieldKind) (q : Roles) (cs : Cells) (os : List LinePiece)
-    → pieces q cs ≡ back k os → NoKeysLeft k q cs
-no_keys_left x q cs os e = grind arith
 
 -- what a repeat takes, by whether it stops at the first piece
 pub each_front : (b : Bool) (o : LinePiece) (os : List LinePiece) → front (EachWord b) (o ∷ os)

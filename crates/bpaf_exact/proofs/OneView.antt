@@ -1,5 +1,6 @@
 -- Where closures can't tell apart what looks alike they agree, and a line's values look alike.
 use Rattle.std.proofs.Common.{Option, arith, subst, Bool, List, refl, map, ◌∷◌, ◌≡◌, sym, ◌∙◌, true}
+use Rattle.std.proofs.Common.{[], ℕ, false, inl, inr, not, ◌&&◌, ◌++◌, ◌||◌}
 use Rattle.bpaf_exact.specs.ProgramForm.{program_alone, argument_field, flag_field, program_closed}
 use Rattle.bpaf_exact.specs.ProgramForm.{ArgumentValue, program_field, program_both, program_con}
 use Rattle.bpaf_exact.specs.ProgramForm.{whole_value, ProgramForm, word_by, whole_program}
@@ -9,12 +10,16 @@ use Rattle.bpaf_exact.specs.ProgramForm.{before_commands, complete, product, For
 use Rattle.bpaf_exact.specs.ProgramForm.{Agrees, ChoiceValue, CommandValue, are_plain}
 use Rattle.bpaf_exact.specs.ProgramForm.{are_words_apart, is_program, program_choice}
 use Rattle.bpaf_exact.specs.ProgramForm.{program_command, WordsApart, part, after_parts, or_part}
-use Rattle.bpaf_exact.specs.Flat.{SingleValue, ClosedValue, SingleLaw, FieldKind, Gap, Variables}
-use Rattle.bpaf_exact.specs.Flat.{own_none, own_more, repeated, AgreesOn, FrontOf, Own}
-use Rattle.bpaf_exact.specs.Flat.{FallbackValue, OptionalValue, OwnList, Closure, ReadOff, Decides}
+use Rattle.bpaf_exact.specs.ProgramForm.{DefaultCommands, OptionalCommands, RepeatCommands}
+use Rattle.bpaf_exact.specs.ProgramForm.{program_default, program_last, program_repeat}
+use Rattle.bpaf_exact.specs.ProgramForm.{PartOrCommands, last_choice}
+use Rattle.bpaf_exact.specs.Flat.{SingleValue, ClosedValue, IsGroup, FieldKind, Gap, Variables}
+use Rattle.bpaf_exact.specs.Flat.{ByName, own_none, own_more, repeated, AgreesOn, FrontOf, Own}
+use Rattle.bpaf_exact.specs.Flat.{FallbackValue, OptionalValue, OwnList, Closure, ReadOff, Groups}
+use Rattle.bpaf_exact.specs.Flat.{LastOf, either_value, NonePresent}
 use Rattle.bpaf_exact.specs.Pieces.{LinePiece, Cells, Roles, One, Two, are_all_apart, either}
+use Rattle.bpaf_exact.specs.Pieces.{is_own}
 use Rattle.bpaf_exact.specs.Says.{HasOneView, pair_view, OneGroup, Respects, Alike, PartOneView}
-use Rattle.std.proofs.Common.{[], ℕ, false, inl, inr, not, ◌&&◌, ◌++◌, ◌||◌}
 use Rattle.std.proofs.lemmas.List.{map-append}
 use Rattle.std.specs.{Prelude.MatchBool, Prelude.option_map, Option.IsSomeRelated}
 use Rattle.bpaf_base.specs.Items.{item_text}
@@ -23,12 +28,9 @@ use Rattle.bpaf_text.specs.{Named.KeyWithValue, Named.Named as Key, Meaning.Spel
 use Rattle.bpaf_laws.specs.{Command.Called, Command.opening_words, Reading.Outcome}
 use Rattle.bpaf_exact.proofs.{ProgramForm.whole_law, ProgramForm.words_apart, Programs.opens_one}
 use Rattle.bpaf_exact.proofs.{Commands.none_opens, Commands.opens_apart, Leaves.last_same}
-use Rattle.bpaf_exact.proofs.{Wrappers.alternative_single, Cuts.one_take, Cuts.one_cut}
-use Rattle.bpaf_exact.proofs.Repeat.{own_nil}
+use Rattle.bpaf_exact.proofs.{Cuts.one_take, Cuts.one_cut}
 use Rattle.bpaf_exact.specs.Parts.{Part, PartForm, PartAlone, PartThen}
-use Rattle.bpaf_exact.specs.Flat.{Groups, ByName, LastOf, either_value}
 use Rattle.bpaf_exact.specs.{ProgramForm.CellsValue, ProgramForm.FieldThen, Says.PartFormOneView}
-use Rattle.bpaf_exact.specs.Pieces.{is_own}
 
 -- Closures.
 
@@ -51,6 +53,7 @@ module _ (A B X Y : Type 0) (see : A → X) (look : B → Y) (f : Closure A B)
   closed_view (complete wide k q value) u = made_view value u
   closed_view (commands optional value) u = made_view value u
   closed_view (before_commands value) u = made_view value u
+  closed_view (last_choice p own value) u = made_view (PartOrCommands p own value) u.2
   closed_view (after_parts value) u = made_view value u
   closed_view _ u = tt
 
@@ -119,8 +122,7 @@ if_view see s b u = grind arith
 
 -- Fields without a repeat or default, and what is made of them.
 
-module _ {env : Variables} {T X : Type 0} {see : T → X} {inner : Outcome T} (k : FieldKind)
-    (q : Roles) (group : Groups T) (gap : Gap T) (l : SingleLaw env T inner k q group gap)
+module _ {T X : Type 0} {see : T → X} (group : Groups T) (gap : Gap T) (l : IsGroup T group gap)
     (one : OneGroup see group) (absent : Alike see gap.absent) where
   -- own lists of the same pieces look alike
   own_view : {os : List LinePiece} {vs ws : List T} → Own T group os vs → Own T group os ws
@@ -136,7 +138,7 @@ module _ {env : Variables} {T X : Type 0} {see : T → X} {inner : Outcome T} (k
 
   -- no piece has no own list but the empty one
   own_never : {v : T} {vs : List T} → Own T group [] (v ∷ vs) → ⊥
-  own_never o = let e = own_nil l refl o in cc
+  own_never (own_more {rest} {v} g o) = l.starts v rest g
 
   -- the values of a repeat of what looks alike look alike
   pub list_view : (os : List LinePiece) → Alike (map see) (OwnList T group gap os)
@@ -160,27 +162,39 @@ module _ {env : Variables} {T X : Type 0} {inner : Outcome T} {names : List Name
     {words : List (List ℕ)} (see : T → X) where
   -- a repeat or default round a field, all values of which look alike
   pub whole_view : {B Y : Type 0} {s : ProgramForm T} (look : B → Y) (kind : FieldKind → FieldKind)
-      (value : Groups T → Gap T → List LinePiece → B → Type 0)
-      → ((k : FieldKind) (q : Roles) (group : Groups T) (gap : Gap T) → SingleLaw env T inner k q
-      group gap → OneGroup see group → Alike see gap.absent → (os : List LinePiece)
-      → Alike look (value group gap os)) → FormLaw env inner names words s → HasOneView see s
-      → HasOneView look (completed kind value s)
-  whole_view {s = alternative wide q one} look kind value each l u =
-      each ByName q _ _ (alternative_single l.by.0) (front_view one u) (λ v w a b. absurd a)
-  whole_view {s = single wide k q group gap} look kind value each l u =
-      each k q group gap l.by.0 u.0 u.1
-  whole_view look kind value each l u = tt
+      (value : Groups T → Gap T → List LinePiece → B → Type 0) (round : CellsValue T → CellsValue B)
+      → ((group : Groups T) (gap : Gap T) → IsGroup T group gap → OneGroup see group
+      → Alike see gap.absent → (os : List LinePiece) → Alike look (value group gap os))
+      → ((v : CellsValue T)
+      → ((cs : Cells) (x : T) → v cs x → NonePresent cs → ⊥) → ((cs : Cells) → Alike see (v cs))
+      → (cs : Cells) → Alike look (round v cs)) → FormLaw env inner names words s
+      → HasOneView see s → HasOneView look (completed kind value round s)
+  whole_view {s = alternative wide q one} look kind value round each more l u =
+      each _ _ l.by.0.is (front_view one u) (λ v w a b. absurd a)
+  whole_view {s = commands false v} look kind value round each more l u =
+      more v (λ cs x h none. let o = l.by.commands.opened cs x h in none_opens none o.0 o.1) u
+  whole_view look kind value round each more l u = grind arith
 
   -- what may be left out
   pub optional_field_view : {s : ProgramForm T} → FormLaw env inner names words s
       → HasOneView see s → HasOneView (option_map see) (program_optional s)
-  optional_field_view l u = grind (arith, none_opens, optional_value_view, whole_view)
+  optional_field_view = whole_view (option_map see) (λ k. k) (OptionalValue T) (OptionalCommands T)
+      optional_value_view (λ v some one cs x y a b. grind arith)
 
   -- a field with a default
   pub fallback_view : {s : ProgramForm T} (f : Closure (Unit {0}) T) → Alike see (λ v. f.yes tt v)
       → FormLaw env inner names words s → HasOneView see s
-      → HasOneView see (completed (λ k. k) (λ group gap. FallbackValue T group gap f) s)
-  fallback_view f given = grind (arith, fallback_value_view, whole_view)
+      → HasOneView see (program_default f s)
+  fallback_view f given = whole_view see (λ k. k) (λ group gap. FallbackValue T group gap f)
+      (DefaultCommands T (f.yes tt))
+      (λ group gap l one absent. fallback_value_view group gap l one absent f given)
+      (λ v some one cs x y a b. grind arith)
+
+  -- the list of a repeat
+  pub repeat_view : {s : ProgramForm T} → FormLaw env inner names words s → HasOneView see s
+      → HasOneView (map see) (program_repeat s)
+  repeat_view = whole_view (map see) repeated (OwnList T) (RepeatCommands T) list_view
+      (λ v some one cs x y a b. grind arith)
 
   -- any field of a record
   pub field_view : {s : ProgramForm T} → FormLaw env inner names words s → HasOneView see s
@@ -189,9 +203,10 @@ module _ {env : Variables} {T X : Type 0} {inner : Outcome T} {names : List Name
 
   -- the last of a repeat
   pub last_view : {s : ProgramForm T} → FormLaw env inner names words s → HasOneView see s
-      → HasOneView see (completed repeated (LastOf T) s)
-  last_view = whole_view see repeated (LastOf T) (λ k q group gap l one absent os v w a b.
-      last_seen a.0 b.0 (list_view k q group gap l one absent os _ _ a.1 b.1))
+      → HasOneView see (program_last s)
+  last_view = whole_view see repeated (LastOf T) (λ value. value)
+      (λ group gap l one absent os v w a b.
+      last_seen a.0 b.0 (list_view group gap l one absent os _ _ a.1 b.1)) (λ v some one. one)
     where
       last_seen : {v w : T} (vs ws : List T) → map see (vs ++ v ∷ []) ≡ map see (ws ++ w ∷ [])
           → see v ≡ see w
@@ -201,7 +216,7 @@ module _ {env : Variables} {T X : Type 0} {inner : Outcome T} {names : List Name
 -- Products.
 
 -- a part alone
-alone_part_view : {T X : Type 0} {see : T → X} {p : Part T} → PartOneView see p → (cs : Cells)
+pub alone_part_view : {T X : Type 0} {see : T → X} {p : Part T} → PartOneView see p → (cs : Cells)
     → Alike see (PartAlone p cs)
 alone_part_view u cs v w a b = (u cs a.left b.left v w a.turn b.turn).0
 
@@ -278,7 +293,7 @@ either_seen true one other = one
 either_seen false one other = other
 
 -- where a test holds, what it says is known
-where_view : {T X : Type 0} (see : T → X) (s : ProgramForm T) (b : Bool)
+pub where_view : {T X : Type 0} (see : T → X) (s : ProgramForm T) (b : Bool)
     → (b ≡ true → HasOneView see s) → HasOneView see (program_if b s)
 where_view see s true u = u refl
 where_view see s false u = tt
@@ -335,6 +350,8 @@ module _ {A B X : Type 0} {see : A → X} {f : Closure A B}
   view_agrees (complete wide k q value) one = λ os. alike_agrees (value os) (one os)
   view_agrees (commands optional value) one = λ cs. alike_agrees (value cs) (one cs)
   view_agrees (before_commands value) one = λ cs. alike_agrees (value cs) (one cs)
+  view_agrees (last_choice p own value) one = λ cs.
+      alike_agrees (PartOrCommands p own value cs) (one.2 cs)
   view_agrees (after_parts value) one = λ cs. alike_agrees (value cs) (one cs)
   view_agrees _ one = tt
 

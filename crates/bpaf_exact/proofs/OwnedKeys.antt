@@ -1,6 +1,6 @@
 -- Of each combinator: the own keys of its form are those with its names, where the inner ones' are.
 use Rattle.bpaf_exact.specs.Flat.{FieldKind, repeated, EachWord, OneWord, Closure, ByName, Groups}
-use Rattle.bpaf_exact.specs.ProgramForm.{program_optional, program_dressed, program_choice, product}
+use Rattle.bpaf_exact.specs.ProgramForm.{program_dressed, program_choice, product}
 use Rattle.bpaf_exact.specs.ProgramForm.{program_closed, program_alone, program_field, program_both}
 use Rattle.bpaf_exact.specs.ProgramForm.{whole_program, choice_only, program_con, alternative}
 use Rattle.bpaf_exact.specs.ProgramForm.{ProgramForm, program_if, key_field, completed, complete}
@@ -9,7 +9,8 @@ use Rattle.bpaf_doc.specs.Names.{Names}
 use Rattle.bpaf_exact.proofs.Names.{either_owns}
 use Rattle.bpaf_exact.specs.Pieces.{LinePiece, no_roles, either, Roles, Owns}
 use Rattle.bpaf_exact.specs.{ProgramForm.single, ProgramForm.or_part, Flat.keys, Flat.Gap}
-use Rattle.bpaf_exact.specs.Parts.{PartForm}
+use Rattle.bpaf_exact.specs.{Parts.PartForm, ProgramForm.CellsValue}
+use Rattle.bpaf_exact.specs.ProgramForm.{as_last, both_last, or_form, program_either}
 
 -- own items are those with one of these names
 abbrev pub FormOwns : {T : Type 0} → List Names → ProgramForm T → Type 0
@@ -58,25 +59,37 @@ repeated_owns (OneWord stops) q h = h
 repeated_owns (EachWord stops) q h = h
 
 module _ {T B : Type 0} {names : List Names} (s : ProgramForm T) (own : OwnsKeys names s)
-    (value : Groups T → Gap T → List LinePiece → B → Type 0) where
-  -- a repeat
-  pub repeat_owns : OwnsKeys names (completed repeated value s)
-  repeat_owns = grind (arith, repeated_owns)
+    (value : Groups T → Gap T → List LinePiece → B → Type 0) (round : CellsValue T → CellsValue B)
+  where
+    -- a repeat
+    pub repeat_owns : OwnsKeys names (completed repeated value round s)
+    repeat_owns = grind (arith, repeated_owns)
 
-  -- a default
-  pub default_owns : OwnsKeys names (completed (λ k. k) value s)
-  default_owns = grind arith
-
--- what may be left out
-pub optional_owns : {T : Type 0} {names : List Names} (s : ProgramForm T) → OwnsKeys names s
-    → OwnsKeys names (program_optional s)
-optional_owns {T} s h = grind (arith, default_owns)
+    -- a default
+    pub default_owns : OwnsKeys names (completed (λ k. k) value round s)
+    default_owns = grind arith
 
 -- a choice of two
-pub choice_owns : {T : Type 0} {own others : List Names} (words more : List (List ℕ))
+choice_owns : {T : Type 0} {own others : List Names} (words more : List (List ℕ))
     (s t : ProgramForm T) → OwnsKeys own s → OwnsKeys others t
     → OwnsKeys (own ++ others) (program_choice own others words more s t)
 choice_owns words more s t a b = grind (arith, if_owns, either_owns)
+
+-- where a form is no program, another
+or_form_owns : {T : Type 0} {names : List Names} (s t : ProgramForm T) → OwnsKeys names s
+    → OwnsKeys names t → OwnsKeys names (or_form s t)
+or_form_owns s t a b = grind arith
+
+-- a choice of two, which may be named parts
+pub program_either_owns : {T : Type 0} {own others : List Names} (words more : List (List ℕ))
+    (p r : PartForm T) (s t : ProgramForm T) → OwnsKeys own s → OwnsKeys others t
+    → OwnsKeys (own ++ others) (program_either own others words more p r s t)
+program_either_owns words more p r s t a b = or_form_owns _ _ (choice_owns words more s t a b)
+    (if_owns _ (of_both (as_last words p s) (as_last more r t)))
+  where
+    of_both : {T : Type 0} {names : List Names} (s t : ProgramForm T)
+        → OwnsKeys names (both_last s t)
+    of_both s t = grind arith
 
 -- what may stand in a choice
 pub only_owns : {T : Type 0} {names : List Names} (s : ProgramForm T) → OwnsKeys names s

@@ -19,13 +19,14 @@ use Rattle.bpaf_exact.specs.Flat.{NonePresent, no_place, none_here}
 use Rattle.bpaf_exact.specs.{Parts.PartAlone, Parts.IsPart, Pieces.either, Pieces.pieces}
 
 -- what is left is spelled
-left_one : {q : Roles} {cs ds : Cells} {o : LinePiece} → TakesPiece q cs o ds → AllSpelled cs
+pub left_one : {q : Roles} {cs ds : Cells} {o : LinePiece} → TakesPiece q cs o ds → AllSpelled cs
     → AllSpelled ds
 left_one (takes_one e) (spelled_cell s a) = empty_cell a
 left_one (takes_two e v) (spelled_cell s (spelled_cell r a)) = empty_cell (empty_cell a)
 left_one (takes_later t) (empty_cell a) = empty_cell (left_one t a)
 left_one (takes_later t) (spelled_cell s a) = spelled_cell s (left_one t a)
 
+-- what is left is spelled
 pub left_spelled : {q : Roles} {cs ds : Cells} → TakesPieces q cs ds → AllSpelled cs → AllSpelled ds
 left_spelled takes_none a = a
 left_spelled (takes_more t more) a = left_spelled more (left_one t a)
@@ -109,6 +110,7 @@ alone_part_law {part} l = record {
 module _ {env : Variables} {A B : Type 0} {first : Outcome A} {rest : Outcome B} {part : Part A}
     {r : Roles} {behind : CellsValue B} (lf : PartLaw env A first part)
     (lr : ProgramLaw env B rest r behind) (apart : Apart part.roles r) where
+  -- a value leaves nothing of others
   leaves : LeavesToOthers (either part.roles r) (PartThen part behind)
   leaves q n a cs v s h =
       let t = turn_takes lf.is h.own.turn in
@@ -120,6 +122,7 @@ module _ {env : Variables} {A B : Type 0} {first : Outcome A} {rest : Outcome B}
   follows s (Ok v) t = ProgramTook (A × B) (PartThen part behind) s v t
   follows s (Err e) t = (w : A × B) → PartThen part behind (cells s) w → class e ≡ OfMemory
 
+  -- an answer of both
   of_joined : {s m t : Situation} (x : Result A Error) (y : Result B Error) → IsWholeIn env s
       → first s x m → rest m y t → follows s (both_answers x y) t
   of_joined {s} {m} {t} (Ok x) (Ok y) w f g =
@@ -151,6 +154,7 @@ module _ {env : Variables} {A B : Type 0} {first : Outcome A} {rest : Outcome B}
       by_want true h = λ z k. memory_class e.0 h
       by_want false h = λ z k. no_refusal lf.is k.own (lf.err s m d w f)
 
+  -- what both answer together
   of_both : {s t : Situation} (x : Result (A × B) Error) → IsWholeIn env s
       → BothEval A B first rest s x t → follows s x t
   of_both {s} {t} x w o = subst (λ z. follows s z t) (sym o.answer)

@@ -24,11 +24,12 @@ use Rattle.bpaf_laws.proofs.ChoiceLaws.{chosen_at_equal, not_winner}
 use Rattle.bpaf_laws.specs.{Combinators.is_untouched, Laws.IsNotMemory, Reading.Outcome}
 use Rattle.bpaf_laws.specs.Choice.{depth}
 use Rattle.bpaf_exact.proofs.PartHeads.{head_leads, not_left, never_alike, left_alike, thins}
-use Rattle.bpaf_exact.proofs.Commands.{cells_same, saved_steady, same_scope, SameScope, has_item}
+use Rattle.bpaf_exact.proofs.Commands.{cells_same, saved_steady, same_scope, has_item}
+use Rattle.bpaf_exact.proofs.Commands.{steady_both, steady_item}
 use Rattle.bpaf_exact.proofs.Cuts.{union_named, both_nil, HeadOf, TookLeft, left_here, left_later}
 use Rattle.bpaf_exact.proofs.Classes.{memory_class, not_memory, combined_refused, combined_calm}
 use Rattle.bpaf_exact.proofs.Parts.{takes_any, lacks_none, entries_back, stays_spoiled}
-use Rattle.bpaf_exact.proofs.{Product.others_of_both, Product.steady_refl, Places.same_item}
+use Rattle.bpaf_exact.proofs.{Product.others_of_both, Product.steady_refl}
 use Rattle.bpaf_exact.specs.Flat.{Steady, CanCatch, catch_missing, catch_other}
 use Rattle.bpaf_exact.specs.{Parts.part_choice, Pieces.others}
 use Rattle.bpaf_base.specs.declared.arg.Arg.{Arg}
@@ -68,17 +69,21 @@ one_leads {qa} {qb} {r} {cs} u some = by_list (pieces r cs) refl
 
 module _ {T : Type 0} {a b : Part T} (la : IsPart a) (lb : IsPart b)
     (apart : Apart a.roles b.roles) where
+  -- the items of both
   u : Union a.roles b.roles (either a.roles b.roles)
   u = either_union la.named lb.named apart
 
+  -- in the other order
   w : Union b.roles a.roles (either a.roles b.roles)
   w = swap_union u
 
+  -- an entry takes own pieces
   choice_takes : {cs ds : Cells} {v : T} → ChoiceFirst a b cs v ds
       → TakesAny (either a.roles b.roles) cs ds
   choice_takes (of_first g l) = takes_any u (la.takes g)
   choice_takes (of_second g l) = takes_any w (lb.takes g)
 
+  -- which, whatever the value
   one_choice : {cs ds es : Cells} {x y : T} → ChoiceFirst a b cs x ds → ChoiceFirst a b cs y es
       → ds ≡ es
   one_choice (of_first g l) (of_first h m) = la.one g h
@@ -86,6 +91,7 @@ module _ {T : Type 0} {a b : Part T} (la : IsPart a) (lb : IsPart b)
   one_choice (of_second g l) (of_first h m) = absurd (leads_once u m l)
   one_choice (of_second g l) (of_second h m) = lb.one g h
 
+  -- the first piece stays first
   leads_back : {p q : Roles} {cs ds : Cells} → IsNamed p → Apart p (either a.roles b.roles)
       → TakesPieces p cs ds → Leads q (either a.roles b.roles) ds
       → Leads q (either a.roles b.roles) cs
@@ -96,6 +102,7 @@ module _ {T : Type 0} {a b : Part T} (la : IsPart a) (lb : IsPart b)
     own = l.own;
   }
 
+  -- pieces of others given back don't matter
   choice_back : {q : Roles} {cs ds es : Cells} {v : T} → IsNamed q
       → Apart q (either a.roles b.roles) → TakesPieces q cs ds → ChoiceFirst a b ds v es
       → (fs : Cells) × ChoiceFirst a b cs v fs × TakesPieces q fs es
@@ -106,15 +113,18 @@ module _ {T : Type 0} {a b : Part T} (la : IsPart a) (lb : IsPart b)
       let x = lb.back n (apart_left w p) t g in
       (x.0, of_second x.1 (leads_back n p t l), x.2)
 
+  -- the first own piece is taken
   choice_heads : {cs ds : Cells} {v : T} → ChoiceFirst a b cs v ds
       → TakenHead (either a.roles b.roles) cs ds
   choice_heads (of_first g l) = head_leads u l.first l.own (la.heads g)
   choice_heads (of_second g l) = head_leads w l.first l.own (lb.heads g)
 
+  -- what is missing has no absent value
   never_absent : {v : T} → (a.missing × b.missing) → ChoiceAbsent a b v → ⊥
   never_absent m (absent_first x) = la.not_both m.0 x
   never_absent m (absent_second none y) = lb.not_both m.1 y
 
+  -- a choice is a part
   pub choice_is : IsPart (part_choice a b)
   choice_is = record {
     named = union_named u;
@@ -135,6 +145,7 @@ module _ {T : Type 0} {a b : Part T} (la : IsPart a) (lb : IsPart b)
   entries_left (entry (of_second g l) more) =
       entries_back la lb.named w.apart (any_some (lb.takes g)) (entries_left more).2
 
+  -- and of the second
   entries_right : {cs es : Cells} {vs : List T} → Entries (part_choice a b) cs vs es
       → HasEntries b cs
   entries_right {cs} (no_entry e) =
@@ -144,9 +155,11 @@ module _ {T : Type 0} {a b : Part T} (la : IsPart a) (lb : IsPart b)
   entries_right (entry (of_second g l) more) =
       let i = entries_right more in (_, i.1, entry g i.2)
 
+  -- what spoils the first spoils both
   spoiled_left : {cs : Cells} → IsSpoiled a cs → IsSpoiled (part_choice a b) cs
   spoiled_left n h = n (entries_left h.2)
 
+  -- so does what spoils the second
   spoiled_right : {cs : Cells} → IsSpoiled b cs → IsSpoiled (part_choice a b) cs
   spoiled_right n h = n (entries_right h.2)
 
@@ -168,11 +181,13 @@ module _ {T : Type 0} {p q whole : Part T} (lp : IsPart p) (lq : IsPart q) {r : 
   abbrev Gave : Cells → T → Cells → Type 0
   Gave cs v ds = Turn whole cs v ds ⊎ (IsSpoiled whole cs × IsSpoiled whole ds)
 
+  -- the entry of one where the other has none
   by_present : {cs ds : Cells} {v : T} → p.first cs v ds → NoOwn q cs → Gave cs v ds
   by_present {cs} {ds} {v} g e = ⊎_elim (λ l. inl (present (first_in cs ds v g l)))
       (λ l. absurd (leads_some (swap_union u) l e))
       (one_leads u (any_there (takes_any u (lp.takes g))))
 
+  -- what one gave
   gave : {cs ds : Cells} {v : T} → TakesPieces p.roles cs ds
       → Turn p cs v ds ⊎ (IsSpoiled p cs × IsSpoiled p ds) → Beside p q r fits cs → Gave cs v ds
   gave {cs} {ds} t (inr n) x = inr (spoils_p cs n.0, spoils_p ds n.1)
@@ -207,6 +222,7 @@ first_stands : (m n : Message) {g : Message} → error_class m ≡ Refused → e
     → Combines m n g → (error_class g ≡ OfMemory) ⊎ (error_class g ≡ Refused)
 first_stands m n e f c = grind arith
 
+-- the second error counts
 second_stands : (m n : Message) {g : Message} → error_class m ≡ Caught → error_class n ≡ Refused
     → Combines m n g → (error_class g ≡ OfMemory) ⊎ (error_class g ≡ Refused)
 second_stands m n e f c = grind arith
@@ -271,13 +287,7 @@ left_cells other (suc n) (suc p) l e f same =
     left_later (same zero (omega arith)) (left_cells (λ q. other (suc q)) n p (omega arith) e f
     (λ q i. same (suc q) (omega arith)))
 
-steady_both : {s m n : Situation} → Steady s m → Steady s n → SameScope n m
-steady_both a b = grind arith
-
-steady_item : {m n : Situation} → SameScope m n → (p : ℕ) → is_taken n p ≡ is_taken m p
-    → open_item n p ≡ open_item m p
-steady_item {m} {n} st p e = grind (arith, same_item)
-
+-- the leftmost piece
 left_of : {env : Variables} {s m n : Situation} {p : ℕ} → IsWholeIn env s → Steady s m → Steady s n
     → is_taken m p ≡ true → is_taken n p ≡ false → ((q : ℕ) → q < p → is_taken m q ≡ is_taken n q)
     → TookLeft (cells m) (cells n)
@@ -292,6 +302,7 @@ left_of {m} {n} {p} w a b took free same =
 
 module _ {env : Variables} {T : Type 0} {first second : Outcome T} {a b : Part T}
     (la : PartLaw env T first a) (lb : PartLaw env T second b) (apart : Apart a.roles b.roles) where
+  -- the items of both
   ab : Union a.roles b.roles (either a.roles b.roles)
   ab = u la.is lb.is apart
 
@@ -433,6 +444,7 @@ module _ {env : Variables} {T : Type 0} {first second : Outcome T} {a b : Part T
   none_left : (cs : Cells) → NoOwn (part_choice a b) cs → NoOwn a cs
   none_left cs e = sym (mine_of_both ab cs) ∙ ap (mine a.roles) e
 
+  -- where both have no own piece, the second has none
   none_right : (cs : Cells) → NoOwn (part_choice a b) cs → NoOwn b cs
   none_right cs e = sym (others_of_both ab cs) ∙ ap (others a.roles) e
 
@@ -462,6 +474,7 @@ module _ {env : Variables} {T : Type 0} {first second : Outcome T} {a b : Part T
       (⊎_elim (λ f. absurd (true≢false (sym w ∙ j.calm f.0))) (λ n. inr (spoils n)) j.why)
       (λ n. j.calm (none n))
 
+  -- an error of both at the same place
   equal_err : (s sa sb : Situation) {t : Situation} (g : Error) (x y : Result T Error)
       → IsWholeIn env s → first s x sa → second s y sb → IsNotMemory x → IsNotMemory y
       → EqualDepths s x sa y sb (Err g) t

@@ -1,37 +1,38 @@
 -- Each parser keeps to the law of the part that it is, if it is one and its inner parsers do.
 use Rattle.std.proofs.Common.{arith, false, subst, Option, Result, List, Bool, true, not, ℕ, length}
 use Rattle.std.proofs.Common.{refl, inl, inr, sym, ◌∙◌, ◌∷◌, ◌≡◌, ◌⊎◌, ◌++◌, [], Err, Ok, ⊎_elim}
+use Rattle.std.proofs.Common.{ap}
 use Rattle.bpaf_laws.specs.Combinators.{FallbackOutcome, CollectOutcome, CountOutcome, GuardOutcome}
 use Rattle.bpaf_laws.specs.Combinators.{ParseOutcome, ManyOutcome, SomeOutcome, HideOutcome}
 use Rattle.bpaf_laws.specs.Combinators.{LastOutcome, TurnOutcome, MapOutcome, Gives, GivesClone}
 use Rattle.bpaf_exact.proofs.PartWrapped.{closed_part_law, default_part_law, optional_part_law}
 use Rattle.bpaf_exact.proofs.PartWrapped.{wrapped_err, wrapped_is, wrapped_no, wrapped_ok}
 use Rattle.bpaf_exact.proofs.Product.{current_cells, same_steady, steady_refl, steady_trans}
+use Rattle.bpaf_exact.proofs.Product.{none_of_nobody}
 use Rattle.bpaf_exact.proofs.Tables.{collect_table, count_table, fallback_table, guard_table, hides}
 use Rattle.bpaf_exact.proofs.Tables.{AllowsNoMore, many_table, map_table, narrower_part, no_more}
+use Rattle.bpaf_exact.proofs.Tables.{optional_table, parse_table, some_table}
 use Rattle.bpaf_exact.specs.Flat.{answer_closure, guard_closure, list_closure, map_closure}
 use Rattle.bpaf_exact.specs.Flat.{parse_closure, Refused, Caught, Closure, ClosedEval, Decides}
 use Rattle.bpaf_exact.specs.Flat.{ErrorClass, IsWholeIn, RepeatOutcome, Variables, catch_other}
 use Rattle.bpaf_exact.specs.Flat.{cells, class, closed_err, Steady, closed_memory, closed_no}
+use Rattle.bpaf_exact.specs.Flat.{closed_yes, error_class, some_closure, OfMemory}
 use Rattle.bpaf_exact.specs.Parts.{Entries, IsSpoiled, Lacks, NoOwn, Part, PartErr, PartForm}
 use Rattle.bpaf_exact.specs.Parts.{PartFormAgrees, PartFormLaw, PartLaw, PartOk, RepeatAbsent}
 use Rattle.bpaf_exact.specs.Parts.{RepeatFirst, Turn, WhyNone, absent, entry, kept_part}
 use Rattle.bpaf_exact.specs.Parts.{lacks_missing, lacks_refused, no_entry, no_part, no_value}
 use Rattle.bpaf_exact.specs.Parts.{of_part, of_parts, one_value, part_choice, part_closed}
 use Rattle.bpaf_exact.specs.Parts.{part_default, part_group, part_if, part_last, part_optional}
-use Rattle.std.proofs.Common.{ap}
+use Rattle.bpaf_exact.specs.Parts.{part_repeat, part_some, part_wrapped, present, some_part}
 use Rattle.bpaf_laws.specs.{Combinators.GivesAnswer, Combinators.PureOutcome, Choice.ChoiceOutcome}
 use Rattle.bpaf_laws.specs.{Product.ProductOutcome, Product.BothOutcome, Reading.Outcome}
 use Rattle.bpaf_exact.proofs.Parts.{none_to_take, no_first, nothing_spoiled, turn_entries}
 use Rattle.bpaf_exact.proofs.PartRepeat.{repeat_part_law, repeat_ran, spoils}
-use Rattle.bpaf_exact.proofs.Tables.{optional_table, parse_table, some_table}
 use Rattle.bpaf_exact.proofs.Names.{apart_of_names, either_owns, never_nil}
 use Rattle.bpaf_exact.proofs.{Product.none_outside_after, PartWrapped.wrapped_spoils}
 use Rattle.bpaf_exact.proofs.{PartChoice.choice_part_law, Classes.memory_class, PartGroup.group_law}
 use Rattle.bpaf_exact.proofs.{Leaves.last_same, Cuts.some_trans}
-use Rattle.bpaf_exact.specs.Pieces.{are_all_apart, takes_none, no_roles, Owns, Cells, pieces}
-use Rattle.bpaf_exact.specs.Parts.{part_repeat, part_some, part_wrapped, present, some_part}
-use Rattle.bpaf_exact.specs.Flat.{closed_yes, error_class, some_closure, OfMemory}
+use Rattle.bpaf_exact.specs.Pieces.{are_all_apart, takes_none, Owns, Cells, Apart, either}
 use Rattle.std.specs.Global.{Vec}
 use Rattle.bpaf_doc.specs.Names.{Names}
 use Rattle.bpaf_line.specs.{declared.error.Error.Error, Messages.is_wrong_input}
@@ -76,18 +77,29 @@ kept_part_law T clones kept = record {
   ok = λ s t v w o. rw o.1 (record {
     steady = same_steady steady_refl;
     takes = rw (current_cells s) takes_none;
-    gave = inl (absent (nobody (cells s)) o.0 (current_cells s));
+    gave = inl (absent (none_of_nobody (cells s)) o.0 (current_cells s));
   });
   err = λ s t e w o. inl (memory_class e.0 o.0);
 }
-  where
-    nobody : (cs : Cells) → pieces no_roles cs ≡ []
-    nobody [] = refl
-    nobody (c ∷ cs) = grind (arith, nobody cs)
 
 -- Repeats.
+
+-- what is absent of a list that isn't empty is one value
+pub some_absent : {T : Type 0} {part : Part T} {xs : List T} (v : Vec T) → v.items ≡ xs
+    → (xs ≡ [] → ⊥) → RepeatAbsent part xs → (x : T) × part.absent x × (v.items ≡ x ∷ [])
+some_absent v e some (no_value m none) = absurd (some none)
+some_absent v e some (one_value {v = x} a f) = (x, a, e ∙ f)
+
+-- the last of what is absent is absent
+pub last_absent : {T : Type 0} {part : Part T} {xs : List T} {v : T} (before : List T)
+    → xs ≡ before ++ v ∷ [] → RepeatAbsent part xs → part.absent v
+last_absent {v} before e (no_value m none) = absurd (never_nil before v [] (sym e ∙ none))
+last_absent {part} {v} before e (one_value {v = x} a f) =
+    subst part.absent (last_same [] before (sym f ∙ e)) a
+
 module _ {env : Variables} {T : Type 0} {inner : Outcome T} {part : Part T}
     (l : PartLaw env T inner part) where
+  -- the law of the repeat
   rl : (idle : Bool) → PartLaw env (List T) (RepeatOutcome inner idle) (part_repeat part)
   rl idle = repeat_part_law l idle
 
@@ -119,17 +131,12 @@ module _ {env : Variables} {T : Type 0} {inner : Outcome T} {part : Part T}
     err = by_err;
   }
     where
-      alone : {xs : List T} (v : Vec T) → v.items ≡ xs → (xs ≡ [] → ⊥) → RepeatAbsent part xs
-          → (x : T) × part.absent x × (v.items ≡ x ∷ [])
-      alone v e some (no_value m none) = absurd (some none)
-      alone v e some (one_value {v = x} a f) = (x, a, e ∙ f)
-
       by_ok : (s t : Situation) (v : Vec T) → IsWholeIn env s
           → ClosedEval (List T) (Vec T) (RepeatOutcome inner false) (some_closure T) Caught s (Ok v)
           t
           → PartOk (part_some part) s v t
       by_ok s t v w (closed_yes {x} o y) =
-          wrapped_ok (rl false).is ((rl false).ok s t x w o) y (alone v y.0 y.1)
+          wrapped_ok (rl false).is ((rl false).ok s t x w o) y (some_absent v y.0 y.1)
 
       missed : {xs : List T} {c : ErrorClass} → xs ≡ [] → c ≡ Caught → RepeatAbsent part xs
           → Lacks (part_some part) c
@@ -154,12 +161,6 @@ module _ {env : Variables} {T : Type 0} {inner : Outcome T} {part : Part T}
     err = by_err;
   }
     where
-      only : {xs : List T} {v : T} (before : List T) → xs ≡ before ++ v ∷ [] → RepeatAbsent part xs
-          → part.absent v
-      only {v} before e (no_value m none) = absurd (never_nil before v [] (sym e ∙ none))
-      only {v} before e (one_value {v = x} a f) =
-          subst part.absent (last_same [] before (sym f ∙ e)) a
-
       -- where no value was there before: it is missing, and nothing has changed
       empty : {cs ds : Cells} {xs : List T} → xs ≡ [] → Turn (part_repeat part) cs xs ds
           → NoOwn part cs × part.missing × (ds ≡ cs)
@@ -200,7 +201,7 @@ module _ {env : Variables} {T : Type 0} {inner : Outcome T} {part : Part T}
       by_ok : (s t : Situation) (v : T) → IsWholeIn env s → LastOutcome inner s (Ok v) t
           → PartOk (part_last part) s v t
       by_ok s t v w (inl o) = wrapped_ok (rl true).is ((rl true).ok s t (o.0 ++ v ∷ []) w o.1)
-          (record { before = o.0; is = refl }) (only o.0 refl)
+          (record { before = o.0; is = refl }) (last_absent o.0 refl)
       by_ok s t v w (inr o) =
           let r = repeat_ran l true w o.1 in
           let i = l.ok o.0 t v (none_outside_after w r.steady) o.2 in
@@ -258,6 +259,18 @@ module _ {env : Variables} {A : Type 0} {inner : Outcome A} {names : List Names}
       → PartFormLaw env b names (of_part f form)
   narrower_of f n same law = of_part_law f same (λ p i. narrower_part n (law p i)) l
 
+  -- a closure
+  closed_form : {B : Type 0} {outcome : Outcome B} (f : Closure A B)
+      → AllowsNoMore B (ClosedEval A B inner f Refused) outcome → PartFormAgrees f form
+      → PartFormLaw env outcome names (of_part (λ p. part_closed p f) form)
+  closed_form {outcome} f n = by_form l
+    where
+      by_form : {form : PartForm A} → PartFormLaw env inner names form → PartFormAgrees f form
+          → PartFormLaw env outcome names (of_part (λ p. part_closed p f) form)
+      by_form {form = no_part} l a = record { by = tt }
+      by_form {form = some_part p} l a =
+          record { by = (narrower_part n (closed_part_law l.by.0 a), l.by.1) }
+
   -- map
   pub map_part_law : {B : Type 0} (answers : A → B → Type 0)
       → PartFormLaw env (MapOutcome inner answers)
@@ -271,38 +284,16 @@ module _ {env : Variables} {A : Type 0} {inner : Outcome A} {names : List Names}
       (shown : E → Option (List ℕ)) → PartFormAgrees (parse_closure answers) form
       → PartFormLaw env (ParseOutcome inner answers shown) names
       (of_part (λ p. part_closed p (parse_closure answers)) form)
-  parse_part_law answers shown = agreeing l
-    where
-      agreeing : {form : PartForm A} → PartFormLaw env inner names form
-          → PartFormAgrees (parse_closure answers) form
-          → PartFormLaw env (ParseOutcome inner answers shown) names
-          (of_part (λ p. part_closed p (parse_closure answers)) form)
-      agreeing {form = no_part} l a = record { by = tt }
-      agreeing {form = some_part p} l a = record {
-        by = (
-          narrower_part (no_more (parse_table answers shown)) (closed_part_law l.by.0 a),
-          l.by.1,
-        );
-      }
+  parse_part_law answers shown =
+      closed_form (parse_closure answers) (no_more (parse_table answers shown))
 
   -- guard
   pub guard_part_law : (checks : A → Bool → Type 0) (message : List ℕ)
       → PartFormAgrees (guard_closure checks) form
       → PartFormLaw env (GuardOutcome inner checks message) names
       (of_part (λ p. part_closed p (guard_closure checks)) form)
-  guard_part_law checks message = agreeing l
-    where
-      agreeing : {form : PartForm A} → PartFormLaw env inner names form
-          → PartFormAgrees (guard_closure checks) form
-          → PartFormLaw env (GuardOutcome inner checks message) names
-          (of_part (λ p. part_closed p (guard_closure checks)) form)
-      agreeing {form = no_part} l a = record { by = tt }
-      agreeing {form = some_part p} l a = record {
-        by = (
-          narrower_part (no_more (guard_table checks message)) (closed_part_law l.by.0 a),
-          l.by.1,
-        );
-      }
+  guard_part_law checks message =
+      closed_form (guard_closure checks) (no_more (guard_table checks message))
 
   -- hide
   pub hide_part_law : PartFormLaw env (HideOutcome inner) names form
@@ -388,44 +379,42 @@ module _ {env : Variables} {A : Type 0} {inner : Outcome A} {names : List Names}
       (λ p i. product_part_law makes i) l
 
 -- two of which no name is both's
-module _ {env : Variables} {A B : Type 0} {first : Outcome A} {rest : Outcome B}
-    {own others : List Names} where
-  -- a field before others
-  pub both_part_law : {s : PartForm A} {t : PartForm B} → PartFormLaw env first own s
-      → PartFormLaw env rest others t → PartFormLaw env (BothOutcome first rest) (own ++ others)
-      (part_if (are_all_apart own others) (of_parts part_group s t))
-  both_part_law {s = some_part p} {t = some_part r} la lb =
-      by_test (are_all_apart own others) refl
-    where
-      by_test : (b : Bool) → are_all_apart own others ≡ b → PartFormLaw env (BothOutcome first rest)
-          (own ++ others) (part_if b (some_part (part_group p r)))
-      by_test false e = record { by = tt }
-      by_test true e = record {
-        by = (
-          group_law la.by.0 lb.by.0 (apart_of_names la.by.1 lb.by.1 e),
-          either_owns la.by.1 lb.by.1,
-        );
-      }
-  both_part_law la lb = grind arith
+two_law : {env : Variables} {A B C : Type 0} {first : Outcome A} {rest : Outcome B}
+    {outcome : Outcome C} {own others : List Names} {s : PartForm A} {t : PartForm B}
+    (more : Part A → Part B → Part C)
+    → ((p : Part A) (r : Part B) → (more p r).roles ≡ either p.roles r.roles)
+    → ((p : Part A) (r : Part B) → PartLaw env A first p → PartLaw env B rest r
+    → Apart p.roles r.roles → PartLaw env C outcome (more p r)) → PartFormLaw env first own s
+    → PartFormLaw env rest others t → PartFormLaw env outcome (own ++ others)
+    (part_if (are_all_apart own others) (of_parts more s t))
+two_law {env} {C = C} {outcome = outcome} {own} {others} {s = some_part p} {t = some_part r} more
+    same law la lb = by_test (are_all_apart own others) refl
+  where
+    by_test : (b : Bool) → are_all_apart own others ≡ b
+        → PartFormLaw env outcome (own ++ others) (part_if b (some_part (more p r)))
+    by_test false e = record { by = tt }
+    by_test true e = record {
+      by = (
+        law p r la.by.0 lb.by.0 (apart_of_names la.by.1 lb.by.1 e),
+        subst (λ q. Owns q (own ++ others)) (sym (same p r)) (either_owns la.by.1 lb.by.1),
+      );
+    }
+two_law more same law la lb = grind arith
+
+-- a field before others
+pub both_part_law : {env : Variables} {A B : Type 0} {first : Outcome A} {rest : Outcome B}
+    {own others : List Names} {s : PartForm A} {t : PartForm B} → PartFormLaw env first own s
+    → PartFormLaw env rest others t → PartFormLaw env (BothOutcome first rest) (own ++ others)
+    (part_if (are_all_apart own others) (of_parts part_group s t))
+both_part_law = two_law part_group (λ p r. refl) (λ p r la lb apart. group_law la lb apart)
 
 -- a choice
 pub choice_form_part_law : {env : Variables} {T : Type 0} {first second : Outcome T}
     {own others : List Names} {s t : PartForm T} → PartFormLaw env first own s
     → PartFormLaw env second others t → PartFormLaw env (ChoiceOutcome first second) (own ++ others)
     (part_if (are_all_apart own others) (of_parts part_choice s t))
-choice_form_part_law {env} {first} {second} {own} {others} {s = some_part p} {t = some_part r} la
-    lb = by_test (are_all_apart own others) refl
-  where
-    by_test : (b : Bool) → are_all_apart own others ≡ b → PartFormLaw env
-        (ChoiceOutcome first second) (own ++ others) (part_if b (some_part (part_choice p r)))
-    by_test false e = record { by = tt }
-    by_test true e = record {
-      by = (
-        choice_part_law la.by.0 lb.by.0 (apart_of_names la.by.1 lb.by.1 e),
-        either_owns la.by.1 lb.by.1,
-      );
-    }
-choice_form_part_law la lb = grind arith
+choice_form_part_law =
+    two_law part_choice (λ p r. refl) (λ p r la lb apart. choice_part_law la lb apart)
 
 -- a kept value
 pub kept_form_part_law : {env : Variables} (T : Type 0) (clones : T → T → Type 0) (kept : T)

@@ -27,6 +27,7 @@ module _ {A B : Type 0} {a : Part A} {b : Part B} (la : IsPart a) (lb : IsPart b
   u : Union a.roles b.roles (either a.roles b.roles)
   u = either_union la.named lb.named apart
 
+  -- the items in the other order
   w : Union b.roles a.roles (either a.roles b.roles)
   w = swap_union u
 
@@ -34,6 +35,7 @@ module _ {A B : Type 0} {a : Part A} {b : Part B} (la : IsPart a) (lb : IsPart b
   none_left : (cs : Cells) → NoOwn (part_group a b) cs → NoOwn a cs
   none_left cs e = sym (mine_of_both u cs) ∙ ap (mine a.roles) e
 
+  -- where the group has no own piece, the second has none
   none_right : (cs : Cells) → NoOwn (part_group a b) cs → NoOwn b cs
   none_right cs e = sym (others_of_both u cs) ∙ ap (others a.roles) e
 
@@ -61,10 +63,12 @@ module _ {A B : Type 0} {a : Part A} {b : Part B} (la : IsPart a) (lb : IsPart b
       any_more (takes_any u (la.takes g)) (takes_some w (turn_takes lb t))
   first_takes (right_first e x h) = takes_any w (lb.takes h)
 
+  -- which pieces are taken doesn't depend on the value
   one_both : {cs es fs : Cells} {x y : A × B} → Turns cs x es → Turns cs y fs → es ≡ fs
   one_both {fs} {y} (ds, s, t) (ms, i, j) =
       one_turn lb t (subst (λ z. Turn b z y.1 fs) (sym (one_turn la s i)) j)
 
+  -- pieces of others given back don't matter
   group_back : {q : Roles} {cs ds es : Cells} {v : A × B} → IsNamed q
       → Apart q (either a.roles b.roles) → TakesPieces q cs ds → GroupFirst a b ds v es
       → (fs : Cells) × GroupFirst a b cs v fs × TakesPieces q fs es
@@ -76,6 +80,7 @@ module _ {A B : Type 0} {a : Part A} {b : Part B} (la : IsPart a) (lb : IsPart b
       let y = lb.back n (apart_left w p) t h in
       (y.0, right_first (none_back la n (apart_left u p) t e) x y.1, y.2)
 
+  -- the first own piece is taken
   group_heads : {cs es : Cells} {v : A × B} → GroupFirst a b cs v es
       → TakenHead (either a.roles b.roles) cs es
   group_heads (left_first g (present h)) = head_both u
@@ -106,6 +111,7 @@ module _ {A B : Type 0} {a : Part A} {b : Part B} (la : IsPart a) (lb : IsPart b
       turn_entries la t.1 (entries_back la lb.named (w.apart) (turn_takes lb t.2)
       (entries_left more).2)
 
+  -- and of the second
   entries_right : {cs es : Cells} {vs : List (A × B)} → Entries (part_group a b) cs vs es
       → HasEntries b cs
   entries_right {cs} (no_entry e) = ([], cs, no_entry (none_right cs e))
@@ -118,6 +124,7 @@ module _ {A B : Type 0} {a : Part A} {b : Part B} (la : IsPart a) (lb : IsPart b
   spoiled_left : {cs : Cells} → IsSpoiled a cs → IsSpoiled (part_group a b) cs
   spoiled_left n h = n (entries_left h.2)
 
+  -- what spoils the second spoils both
   spoiled_right : {cs : Cells} → IsSpoiled b cs → IsSpoiled (part_group a b) cs
   spoiled_right n h = n (entries_right h.2)
 
@@ -220,6 +227,7 @@ follows part s (Err e) t = (class e ≡ OfMemory) ⊎ PartErr part s e t
 module _ {env : Variables} {A B : Type 0} {first : Outcome A} {rest : Outcome B} {a : Part A}
     {b : Part B} (la : PartLaw env A first a) (lb : PartLaw env B rest b)
     (apart : Apart a.roles b.roles) where
+  -- an answer of both
   of_joined : {s m t : Situation} (x : Result A Error) (y : Result B Error) → IsWholeIn env s
       → first s x m → IsNotMemory x → rest m y t → follows (part_group a b) s (both_answers x y) t
   of_joined {s} {m} {t} (Ok x) (Ok y) w f n g =

@@ -25,6 +25,7 @@ more_head (head_later n h) (takes_one e) = head_later n h
 more_head (head_later n (head_later m h)) (takes_two e v) = head_later n (head_later m h)
 more_head (head_later n h) (takes_later t) = head_later n (more_head h t)
 
+-- so it is when more is taken
 pub head_more : {p q : Roles} {cs ds es : Cells} → TakenHead q cs ds → TakesPieces p ds es
     → TakenHead q cs es
 head_more h takes_none = h
@@ -39,6 +40,7 @@ back_head n a (takes_two {k} e v) (head_later f (head_later g h)) =
 back_head n a (takes_later t) (head_here e) = head_here e
 back_head n a (takes_later t) (head_later f h) = head_later f (back_head n a t h)
 
+-- and when pieces of others are given back
 pub head_back : {p q : Roles} {cs ds es : Cells} → IsNamed p → IsNamed q → Apart p q
     → TakesPieces p cs ds → TakenHead q ds es → TakenHead q cs es
 head_back np n a takes_none h = h
@@ -49,6 +51,7 @@ own_left : {qa qb r : Roles} (k : Arg) → Union qa qb r → is_own_role (qa k) 
     → is_own_role (r k) ≡ true
 own_left k u e = ap is_own_role (u.left k e) ∙ e
 
+-- and one of the other
 own_right : {qa qb r : Roles} (k : Arg) → Union qa qb r → is_own_role (qb k) ≡ true
     → is_own_role (r k) ≡ true
 own_right k u e = ap is_own_role (u.right k e) ∙ e
@@ -118,10 +121,12 @@ pub data Thins (q : Roles) : Cells → Cells → Type 0 where
   thin_two : {k w : Arg} {cs ds : Cells} → is_own_role (q k) ≡ true → is_value w ≡ true
       → Thins q cs ds → Thins q (Some k ∷ (Some w ∷ cs)) (None ∷ (None ∷ ds))
 
+-- nothing taken
 thin_refl : {q : Roles} (cs : Cells) → Thins q cs cs
 thin_refl [] = thin_end
 thin_refl (c ∷ cs) = thin_same (thin_refl cs)
 
+-- one piece more
 thin_more : {q : Roles} {cs ds es : Cells} {o : LinePiece} → Thins q cs ds → TakesPiece q ds o es
     → Thins q cs es
 thin_more thin_end s = elim s [ ]
@@ -131,10 +136,12 @@ thin_more (thin_same t) (takes_later s) = thin_same (thin_more t s)
 thin_more (thin_one e t) (takes_later s) = thin_one e (thin_more t s)
 thin_more (thin_two e v t) (takes_later (takes_later s)) = thin_two e v (thin_more t s)
 
+-- some more
 thin_some : {q : Roles} {cs ds es : Cells} → Thins q cs ds → TakesPieces q ds es → Thins q cs es
 thin_some t takes_none = t
 thin_some t (takes_more s more) = thin_some (thin_more t s) more
 
+-- what some pieces leave
 pub thins : {q : Roles} {cs ds : Cells} → TakesPieces q cs ds → Thins q cs ds
 thins {cs} t = thin_some (thin_refl cs) t
 
@@ -143,6 +150,7 @@ never_both : {qa qb r : Roles} (k : Arg) → Union qa qb r → is_own_role (qa k
     → is_own_role (qb k) ≡ true → ⊥
 never_both k u e f = let z = u.apart.left k e in cc
 
+-- nor is it the other's
 not_own : {qa qb r : Roles} (k : Arg) → Union qa qb r → is_own_role (qa k) ≡ true → r k ≡ Foreign
     → ⊥
 not_own k u e f = let z = u.left k e in cc

@@ -46,6 +46,7 @@ first_back np n a (takes_later (takes_later s)) (first_two e v) =
 first_back np n a (takes_later s) (first_later f t) =
     let i = first_back np n a s t in (_, first_later f i.1, takes_later i.2)
 
+-- nor do some
 some_back : {p q : Roles} → IsNamed p → IsNamed q → Apart p q → {cs ds es : Cells} {o : LinePiece}
     → TakesPieces p cs ds → TakesFirst q ds o es
     → (fs : Cells) × TakesFirst q cs o fs × TakesPieces p fs es

@@ -1,8 +1,8 @@
 -- An argument of which the last value counts is a named part.
 use Rattle.std.proofs.Common.{arith, false, subst, List, refl, inl, inr, true, Bool, ◌≡◌, ◌∙◌, ◌∷◌}
 use Rattle.bpaf_laws.specs.Leaves.{ArgumentOutcome, ArgumentFails, TakesOwnText, TakesBefore}
-use Rattle.bpaf_exact.proofs.Leaves.{absence_class, last_same, named, no_key, owns, took_pair}
-use Rattle.bpaf_exact.specs.Flat.{class, cells, error_class, gap_of, CanCatch, Gap, OfMemory}
+use Rattle.bpaf_exact.proofs.Leaves.{last_same, named, no_key, owns, took_pair}
+use Rattle.bpaf_exact.specs.Flat.{class, cells, error_class, gap_of, Gap, OfMemory}
 use Rattle.bpaf_exact.specs.Parts.{Entries, IsPart, IsSpoiled, Part, PartErr, PartFormLaw, PartLaw}
 use Rattle.bpaf_exact.specs.Parts.{PartOk, absent, entry, lacks_missing, lacks_refused}
 use Rattle.bpaf_exact.specs.Pieces.{Cells, IsNamed, Roles, TakesPieces, Two, pieces, takes_more}
@@ -13,7 +13,7 @@ use Rattle.bpaf_exact.proofs.PartRepeat.{repeat_is, spoiled_before, spoils}
 use Rattle.bpaf_exact.proofs.PartKeys.{key_is, one_first, unread_spoils}
 use Rattle.bpaf_exact.proofs.{Places.bare_taken, Places.match_of, Places.by_test, Repeat.same_takes}
 use Rattle.bpaf_exact.proofs.{PartWrapped.wrapped_is, PartWrapped.wrapped_spoils, Cuts.first_takes}
-use Rattle.bpaf_exact.proofs.{PartFlags.absence_calm, PartFlags.can, PartArguments.argument_law}
+use Rattle.bpaf_exact.proofs.{PartFlags.absence_is, PartArguments.argument_law}
 use Rattle.bpaf_exact.proofs.{Wrappers.gap_empty, Names.never_nil, Leaves.TookPair, Parts.no_first}
 use Rattle.bpaf_exact.specs.ProgramForm.{argument_part, argument_part_form, argument_roles}
 use Rattle.bpaf_exact.specs.Parts.{last_key_part, no_entry, present, some_part, texts_part}
@@ -57,12 +57,15 @@ module _ {q : Roles} (n : IsNamed q) where
 
 module _ {T : Type 0} (means : List ℕ → T → Type 0) (argument : KeyWithValue)
     (all : argument.last ≡ true) (variables : Variables) where
+  -- its items
   abbrev own : Roles
   own = argument_roles argument.adjacent argument.named.names
 
+  -- what stands for no piece
   abbrev gap : Gap T
   gap = gap_of means (first_set variables argument.named.envs)
 
+  -- the part
   abbrev whole : Part T
   whole = last_key_part means own gap
 
@@ -75,6 +78,7 @@ module _ {T : Type 0} (means : List ℕ → T → Type 0) (argument : KeyWithVal
     entries : Entries (texts_part own) (cells s) (before ++ last ∷ []) (cells t)
     text_is : item_text last.1 ≡ text
 
+  -- all keys with their texts
   took : (s t : Situation) (text : List ℕ) (before : List (List ℕ))
       → TakesKeysWithTexts argument s (before ++ text ∷ []) t → pieces own (cells t) ≡ []
       → Took s t text
@@ -102,6 +106,7 @@ module _ {T : Type 0} (means : List ℕ → T → Type 0) (argument : KeyWithVal
         text_is = rest.text_is;
       }
 
+  -- where they are all
   took_all : {s t : Situation} {text : List ℕ} → TakesOwnText argument.last argument s text t
       → Took s t text
   took_all {s} {t} {text} takes =
@@ -114,6 +119,7 @@ module _ {T : Type 0} (means : List ℕ → T → Type 0) (argument : KeyWithVal
     takes : TakesPieces own (cells s) (cells t)
     spoiled : IsSpoiled (texts_part own) (cells t) → IsSpoiled (texts_part own) (cells s)
 
+  -- some of them
   took_some : (s t : Situation) (texts : List (List ℕ)) → TakesKeysWithTexts argument s texts t
       → Some s t
   took_some s t [] same =
@@ -196,18 +202,14 @@ module _ {T : Type 0} (means : List ℕ → T → Type 0) (argument : KeyWithVal
         why = inr (spoiled n);
         calm = λ f. absurd (n ([], _, no_entry f));
       })
-  last_fails {s} {e} other c same o = inr (rw o.2 (record {
-    steady = steady_refl;
-    takes = takes_none;
-    why = inl (
-      no_key argument s o.0,
-      lacks_missing (subst (λ z. CanCatch z) (sym (ap error_class c))
-          (can (absence_class s (argument_piece argument) argument.named.envs other o.1.1)))
-          (grind (arith, o.1.0)),
-    );
-    calm = λ f. ap is_wrong_input c
-        ∙ absence_calm s (argument_piece argument) argument.named.envs other o.1.1;
-  }))
+  last_fails {s} {e} other c same o =
+      let n = absence_is s (argument_piece argument) argument.named.envs {e = e} other c o.1.1 in
+      inr (rw o.2 (record {
+        steady = steady_refl;
+        takes = takes_none;
+        why = inl (no_key argument s o.0, lacks_missing n.0 (grind (arith, o.1.0)));
+        calm = λ f. n.1;
+      }))
 
   -- it keeps to the law
   pub last_key_law : PartLaw variables T (ArgumentOutcome means argument) whole

@@ -5,16 +5,15 @@ use Rattle.bpaf_exact.proofs.Parts.{none_to_take, nothing_spoiled, no_first, any
 use Rattle.bpaf_exact.specs.Parts.{TakenHead, Part, NoOwn, Entries, HasEntries, IsSpoiled, Turn}
 use Rattle.bpaf_exact.specs.Parts.{IsPart, no_entry, entry, present, absent, lacks_missing}
 use Rattle.bpaf_exact.specs.Parts.{lacks_refused, PartLaw, PartOk, PartErr, WhyNone, IsFine}
-use Rattle.std.proofs.Common.{◌∙◌, ◌∷◌, ◌≡◌, ◌⊎◌, [], sym, ap, Err, Ok, ⊎_elim, Bool}
+use Rattle.std.proofs.Common.{◌∙◌, ◌∷◌, ◌≡◌, ◌⊎◌, [], sym, Err, Ok, ⊎_elim, Bool}
 use Rattle.bpaf_exact.specs.Pieces.{TakesPieces, takes_none, Cells, pieces, Roles, IsNamed, Apart}
-use Rattle.bpaf_exact.specs.Flat.{OfMemory, Refused, Steady, RepeatOutcome, Stops, present_count}
+use Rattle.bpaf_exact.specs.Flat.{OfMemory, Refused, Steady, RepeatOutcome, Stops}
 use Rattle.bpaf_exact.specs.Parts.{RepeatAbsent, part_repeat, no_value, one_value}
 use Rattle.bpaf_exact.proofs.Product.{steady_refl, steady_trans, none_outside_after}
-use Rattle.bpaf_exact.proofs.Places.{takes_some_fewer, open_present, takes_fewer}
 use Rattle.bpaf_exact.proofs.Classes.{stops_at, goes_on, memory_class}
 use Rattle.bpaf_exact.proofs.{Cuts.some_trans, Cuts.keeps_other_some, PartWrapped.caught_part}
 use Rattle.bpaf_exact.proofs.{Parts.none_back, Parts.some_or_none, PartHeads.head_more}
-use Rattle.bpaf_exact.proofs.Repeat.{stopped_by, stops_by}
+use Rattle.bpaf_exact.proofs.Repeat.{fewer_count, same_count, stopped_by, stops_by}
 use Rattle.std.specs.Prelude.{◌<◌, ◌≤◌}
 use Rattle.bpaf_line.specs.{Situation.Situation, Situation.open_count, declared.error.Error.Error}
 use Rattle.bpaf_line.specs.Messages.{is_wrong_input}
@@ -47,16 +46,19 @@ module _ {T : Type 0} {part : Part T} (l : IsPart part) where
       let i = all_back n p b.2 more in
       (i.0, entry b.1 i.1, i.2)
 
+  -- it takes own pieces
   repeat_takes : {cs ds : Cells} {vs : List T} → (NoOwn part cs → ⊥) → Entries part cs vs ds
       → TakesAny part.roles cs ds
   repeat_takes some (no_entry e) = absurd (some e)
   repeat_takes some (entry g more) = any_more (l.takes g) (entries_take more)
 
+  -- the first own piece among them
   repeat_heads : {cs ds : Cells} {vs : List T} → (NoOwn part cs → ⊥) → Entries part cs vs ds
       → TakenHead part.roles cs ds
   repeat_heads some (no_entry e) = absurd (some e)
   repeat_heads some (entry g more) = head_more (l.heads g) (entries_take more)
 
+  -- a repeat is a part
   pub repeat_is : IsPart (part_repeat part)
   repeat_is = record {
     named = l.named;
@@ -94,14 +96,6 @@ module _ {T : Type 0} {part : Part T} (l : IsPart part) where
           → IsSpoiled part ds → Entries part cs vs es → ⊥
       by_entries g n (no_entry e) = no_first l e g
       by_entries g n (entry h more) = n (subst (HasEntries part) (l.one h g) (_, _, more))
-
--- the count of what is present
-same_count : (s m : Situation) → cells m ≡ cells s → open_count m ≡ open_count s
-same_count s m e = open_present m ∙ (ap present_count e ∙ sym (open_present s))
-
-pub fewer_count : {q : Roles} (s m : Situation) → TakesAny q (cells s) (cells m)
-    → open_count m < open_count s
-fewer_count s m t = grind (arith, open_present, takes_fewer, takes_some_fewer)
 
 module _ {env : Variables} {T : Type 0} {inner : Outcome T} {part : Part T}
     (l : PartLaw env T inner part) where
@@ -226,6 +220,7 @@ module _ {env : Variables} {T : Type 0} {inner : Outcome T} {part : Part T}
         (l.err s o.0.1 o.0.0 w o.0.2));
   })
 
+  -- its turns to the end
   turns_ran : (first : Bool) (vs : List T) {s m t : Situation} → IsWholeIn env s
       → Turns inner false first s vs m → TurnOutcome inner false (is_nil vs) m (Ok None) t
       → Ran (Turn (part_repeat part) (cells s) vs (cells t)) s t
@@ -299,6 +294,7 @@ module _ {env : Variables} {T : Type 0} {inner : Outcome T} {part : Part T}
       by_gave (inl (absent z a same)) (inr n) =
           absurd (nothing_spoiled l.is (subst (NoOwn part) (sym same) z) n)
 
+  -- its turns to a fault
   turns_fail : (first last : Bool) (vs : List T) {s m t : Situation} {e : Error} → IsWholeIn env s
       → Turns inner false first s vs m → TurnOutcome inner false last m (Err e) t
       → (class e ≡ OfMemory) ⊎ FailedRun e s t
@@ -336,6 +332,7 @@ module _ {env : Variables} {T : Type 0} {inner : Outcome T} {part : Part T}
       by_why (inl z) (inl f) = inl (z, lacks_refused f.0 (never f.1 f.2) (λ m. m))
       by_why (inr some) (inl f) = inr (λ h. unfit some f.1 f.2 h.2)
 
+  -- where it is refused
   repeat_fails : (idle : Bool) {s t : Situation} (e : Error) → IsWholeIn env s
       → RepeatOutcome inner idle s (Err e) t
       → (class e ≡ OfMemory) ⊎ PartErr (part_repeat part) s e t

@@ -176,7 +176,7 @@ module _ {env : Variables} {A X : Type 0} {inner : Outcome A} {names : List Name
             (sym (map-append see vs (v ∷ [])) ∙ (same ∙ map-append see ws (w ∷ [])))
 
 -- a choice of two
-choice_of_view : {T X : Type 0} {see : T → X} {a b : Part T} → IsPart a → IsPart b
+pub choice_of_view : {T X : Type 0} {see : T → X} {a b : Part T} → IsPart a → IsPart b
     → Apart a.roles b.roles → PartOneView see a → PartOneView see b
     → PartOneView see (part_choice a b)
 choice_of_view {T} {see} {a} {b} la lb apart u w = by_turns (choice_is la lb apart) firsts absents

@@ -125,12 +125,14 @@ module _ {A B : Type 0} {part : Part A} (l : IsPart part) {makes : A → B → T
 
 module _ {env : Variables} {T : Type 0} {inner : Outcome T} {part : Part T}
     (l : PartLaw env T inner part) where
+  -- an answer
   optional_ok : (s t : Situation) (v : Option T) → IsWholeIn env s → OptionalEval T inner s (Ok v) t
       → PartOk (part_optional part) s v t
   optional_ok s t v w (optional_some {v = x} o) = wrapped_ok l.is (l.ok s t x w o) refl (λ a. a)
   optional_ok s t v w (optional_none {e} {m} o stops) =
       wrapped_none l.is (stopped_by stops) (l.err s m e w o) (λ m. m)
 
+  -- a refusal
   optional_fails : (s t : Situation) (e : Error) → IsWholeIn env s
       → OptionalEval T inner s (Err e) t
       → (class e ≡ OfMemory) ⊎ PartErr (part_optional part) s e t
@@ -195,11 +197,13 @@ module _ {env : Variables} {T : Type 0} {inner : Outcome T} {part : Part T}
 -- A closure round a part.
 module _ {env : Variables} {A B : Type 0} {inner : Outcome A} {part : Part A}
     (l : PartLaw env A inner part) {f : Closure A B} (agrees : PartAgrees f part) where
+  -- an answer
   closed_ok : (s t : Situation) (v : B) → IsWholeIn env s
       → ClosedEval A B inner f Refused s (Ok v) t
       → PartOk (part_closed part f) s v t
   closed_ok s t v w (closed_yes {x} o y) = wrapped_ok l.is (l.ok s t x w o) y (λ a. (x, a, y))
 
+  -- a refusal
   closed_fails : (s t : Situation) (e : Error) → IsWholeIn env s
       → ClosedEval A B inner f Refused s (Err e) t
       → (class e ≡ OfMemory) ⊎ PartErr (part_closed part f) s e t

@@ -2,19 +2,21 @@
 -- too; so does an outcome that allows no more; and the theorem of exactness.
 use Rattle.std.proofs.Common.{append-nil, true≢false, bytes_eq, Option, Result, length, ⊎_elim, Err}
 use Rattle.std.proofs.Common.{arith, false, refl, true, ◌&&◌, ◌++◌, Bool, List, inl, inr, not, sym}
+use Rattle.std.proofs.Common.{◌∙◌, ◌≡◌, ◌⊎◌, Ok, [], ap, ℕ, subst, None, ◌||◌}
+use Rattle.std.proofs.lemmas.Bool.{false_from_ne_true, and_parts, le-leb, lt-ltb, or_cases, or_left}
+use Rattle.std.proofs.lemmas.Bool.{or_right}
+use Rattle.std.proofs.lemmas.Slice.Eq.{bytes_eq-Decides}
 use Rattle.bpaf_laws.specs.Combinators.{FallbackOutcome, CollectOutcome, CountOutcome, GuardOutcome}
 use Rattle.bpaf_laws.specs.Combinators.{ParseOutcome, GivesAnswer, LastOutcome, ManyOutcome}
 use Rattle.bpaf_laws.specs.Combinators.{SomeOutcome, HideOutcome, TurnOutcome, GivesClone}
+use Rattle.bpaf_laws.specs.Combinators.{MapOutcome, Gives}
+use Rattle.bpaf_laws.specs.Command.{opening_words, is_one_of, Called}
+use Rattle.bpaf_laws.specs.Product.{ProductOutcome, BothOutcome}
+use Rattle.bpaf_laws.specs.{Choice.ChoiceOutcome, Reading.Outcome}
 use Rattle.bpaf_exact.proofs.Commands.{optional_commands, choice_commands, closed_commands}
-use Rattle.bpaf_exact.proofs.Product.{named_both_law, named_last_law, named_con_law, none_counted}
-use Rattle.bpaf_exact.proofs.Wrappers.{alternative_single, closed_alternative, fallback_field}
-use Rattle.bpaf_exact.specs.Flat.{FieldsReading, RepeatOutcome, OptionalValue, FallbackValue, cells}
-use Rattle.bpaf_exact.specs.Flat.{guard_closure, class, parse_closure, both_reading, OptionalEval}
-use Rattle.bpaf_exact.specs.Flat.{FieldLaw, list_closure, some_closure, FieldKind, ClosedValue}
-use Rattle.bpaf_exact.specs.Flat.{ErrorClass, ClosedEval, keys, answer_closure, map_closure}
-use Rattle.bpaf_exact.specs.Flat.{NonePresent, SingleValue, FieldsLaw, IsWholeIn, Variables}
-use Rattle.bpaf_exact.specs.Flat.{SingleLaw, OfMemory, error_class, repeated, ReadOff, Refused}
-use Rattle.bpaf_exact.specs.Flat.{OwnList, Closure, Decides, Before, ByName, Caught, Groups, LastOf}
+use Rattle.bpaf_exact.proofs.Commands.{default_commands, last_commands, repeat_commands}
+use Rattle.bpaf_exact.proofs.Commands.{some_commands_agree, closed_program}
+use Rattle.bpaf_exact.specs.ProgramForm.{CommandsLaw, program_default, program_last, program_repeat}
 use Rattle.bpaf_exact.specs.ProgramForm.{program_dressed, are_words_apart, before_commands, FormLaw}
 use Rattle.bpaf_exact.specs.ProgramForm.{product_reading, program_choice, program_closed, completed}
 use Rattle.bpaf_exact.specs.ProgramForm.{product_roles, program_alone, program_field, program_value}
@@ -26,32 +28,42 @@ use Rattle.bpaf_exact.specs.ProgramForm.{IsSpelledLine, program_both, line_cells
 use Rattle.bpaf_exact.specs.ProgramForm.{are_plain, program_optional, IsAcceptedOrWant}
 use Rattle.bpaf_exact.specs.ProgramForm.{program_command, ProgramForm, alternative, choice_only}
 use Rattle.bpaf_exact.specs.ProgramForm.{Accepted, product, IsExact, single, RunRan, part}
+use Rattle.bpaf_exact.specs.ProgramForm.{after_parts, or_part, FieldThen, or_form, program_either}
+use Rattle.bpaf_exact.specs.ProgramForm.{DefaultCommands, OptionalCommands, as_last, both_last}
+use Rattle.bpaf_exact.specs.ProgramForm.{is_commands, last_choice, ChosenLaw}
+use Rattle.bpaf_exact.proofs.Product.{named_both_law, named_last_law, named_con_law, none_counted}
+use Rattle.bpaf_exact.proofs.Product.{count_none, both_law, last_law, con_law}
+use Rattle.bpaf_exact.proofs.Wrappers.{fallback_field, closed_single, left_out_law, closed_law}
+use Rattle.bpaf_exact.proofs.Wrappers.{single_law}
 use Rattle.bpaf_exact.proofs.Tables.{AllowsNoMore, no_more, narrower, narrower_part, map_table}
 use Rattle.bpaf_exact.proofs.Tables.{hides, parse_table, guard_table, optional_table, many_table}
-use Rattle.std.proofs.lemmas.Bool.{false_from_ne_true, and_parts, le-leb, lt-ltb}
-use Rattle.std.proofs.Common.{◌∙◌, ◌≡◌, ◌⊎◌, Ok, [], ap, ℕ}
-use Rattle.std.proofs.lemmas.Slice.Eq.{bytes_eq-Decides}
-use Rattle.bpaf_laws.specs.Command.{opening_words, is_one_of, Called}
-use Rattle.bpaf_laws.specs.{Product.ProductOutcome, Product.BothOutcome, Choice.ChoiceOutcome}
-use Rattle.bpaf_laws.specs.{Combinators.MapOutcome, Combinators.Gives, Reading.Outcome}
-use Rattle.bpaf_exact.proofs.Programs.{record_program, command_law, con_program, before_law}
-use Rattle.bpaf_exact.proofs.Wrappers.{closed_single, left_out_law, closed_law, single_law}
 use Rattle.bpaf_exact.proofs.Tables.{some_table, collect_table, count_table, fallback_table}
+use Rattle.bpaf_exact.proofs.Programs.{record_program, command_law, con_program, before_law}
 use Rattle.bpaf_exact.proofs.Names.{apart_of_names, either_owns, foreign_of, both_hold}
-use Rattle.bpaf_exact.proofs.Product.{count_none, both_law, last_law, con_law}
 use Rattle.bpaf_exact.proofs.Repeat.{some_agrees_on, last_of_law, repeat_law}
+use Rattle.bpaf_exact.proofs.PartReads.{FormReads, field_law_of, key_law_of, keys_groups}
 use Rattle.bpaf_exact.proofs.{PartBefore.alone_part_law, PartBefore.then_law, Classes.memory_class}
-use Rattle.bpaf_exact.proofs.{Commands.closed_program, Commands.choice_law, Cuts.one_cut}
-use Rattle.bpaf_exact.proofs.Places.{open_present, same_cells}
-use Rattle.bpaf_exact.specs.Pieces.{are_all_apart, LinePiece, either, Roles, Owns, Cut}
-use Rattle.bpaf_exact.specs.Parts.{Part, PartForm, PartFormLaw, PartThen, some_part}
-use Rattle.bpaf_exact.specs.ProgramForm.{after_parts, or_part, FieldThen}
-use Rattle.bpaf_exact.specs.Flat.{Gap}
+use Rattle.bpaf_exact.proofs.{Cuts.one_cut, Places.open_present, Places.same_cells}
+use Rattle.bpaf_exact.specs.Flat.{FieldsReading, RepeatOutcome, OptionalValue, FallbackValue, cells}
+use Rattle.bpaf_exact.specs.Flat.{guard_closure, class, parse_closure, both_reading, OptionalEval}
+use Rattle.bpaf_exact.specs.Flat.{FieldLaw, list_closure, some_closure, FieldKind, ClosedValue}
+use Rattle.bpaf_exact.specs.Flat.{ErrorClass, ClosedEval, keys, answer_closure, map_closure}
+use Rattle.bpaf_exact.specs.Flat.{NonePresent, FieldsLaw, IsWholeIn, Variables, SingleLaw, OfMemory}
+use Rattle.bpaf_exact.specs.Flat.{error_class, repeated, ReadOff, Refused, Closure, Decides, Before}
+use Rattle.bpaf_exact.specs.Flat.{ByName, Caught, Groups, LastOf, EachWord, Gap, OneWord, AgreesOn}
+use Rattle.bpaf_exact.specs.Flat.{FrontOf, KeyLaw, gap_of}
+use Rattle.bpaf_exact.specs.Pieces.{are_all_apart, LinePiece, either, Roles, Owns, Cut, no_roles}
+use Rattle.bpaf_exact.specs.Pieces.{Cells, Apart}
+use Rattle.bpaf_exact.specs.Parts.{Part, PartForm, PartFormLaw, PartThen, some_part, never_part}
+use Rattle.bpaf_exact.specs.Parts.{no_part}
 use Rattle.std.specs.List.{list_all}
 use Rattle.bpaf_base.specs.{Items.is_command_word, declared.arg.Arg.Arg}
 use Rattle.bpaf_doc.specs.Names.{Names}
 use Rattle.bpaf_line.specs.Situation.{Situation, beginning, Context, item_in}
 use Rattle.bpaf_line.specs.{declared.error.Error.Error, Messages.is_wrong_input}
+use Rattle.bpaf_exact.proofs.LastChoices.{commands_last_law, last_choice_law, last_program}
+use Rattle.bpaf_exact.proofs.{LastChoices.part_last_law, Names.both_own, PartBefore.swap_apart}
+use Rattle.std.proofs.lemmas.List.Folds.{list_any-append}
 
 -- the cells with which parsing begins are those of the line
 pub first_cells_are : (context : Context) → cells (beginning context) ≡ line_cells context
@@ -110,16 +122,63 @@ if_law : {env : Variables} {T : Type 0} {outcome : Outcome T} {names : List Name
     → FormLaw env outcome names words (program_if b s)
 if_law b f = grind arith
 
+-- a form, where it isn't a named field
+abbrev pub unnamed : {T : Type 0} → ProgramForm T → ProgramForm T
+unnamed (alternative wide q each) = no_program
+unnamed (single wide ByName q group gap) = no_program
+unnamed (complete wide ByName q value) = no_program
+unnamed s = s
+
+-- it keeps to the law where the form does
+pub unnamed_law : {env : Variables} {T : Type 0} {outcome : Outcome T} {names : List Names}
+    {words : List (List ℕ)} {s : ProgramForm T} → FormLaw env outcome names words s
+    → FormLaw env outcome names words (unnamed s)
+unnamed_law l = grind arith
+
+-- a named field keeps to the law of its part
+pub named_law : {env : Variables} {T : Type 0} {outcome : Outcome T} {names : List Names}
+    {words : List (List ℕ)} (s : ProgramForm T) (p : PartForm T) → FormReads names s p
+    → FormLaw env outcome names words (unnamed s) → PartFormLaw env outcome names p
+    → FormLaw env outcome names words s
+named_law {env} {T} {outcome} {names} (alternative wide q each) (some_part p) r l lp =
+    let i = r.by.part in
+    record {
+      by = subst (λ z. KeyLaw env T outcome z (FrontOf T each) (gap_of each None) × Owns z names)
+          i.0 (key_law_of lp.by.0 (keys_groups i.1.keys i.1.absence), lp.by.1);
+    }
+named_law {env} {T} {outcome} {names} (single wide ByName q group gap) (some_part p) r l lp =
+    let i = r.by.part in
+    record {
+      by = subst (λ z. KeyLaw env T outcome z group gap × Owns z names) i.0
+          (key_law_of lp.by.0 i.1, lp.by.1);
+    }
+named_law {env} {T} {outcome} {names} (complete wide ByName q value) (some_part p) r l lp =
+    let i = r.by.part in
+    record {
+      by = subst (λ z. FieldLaw env T outcome ByName z value × Owns z names) i.0
+          (field_law_of lp.by.0 i.1, lp.by.1);
+    }
+named_law s p r l lp = grind arith
+
+-- a closure round what ends in commands
+closed_end : {env : Variables} {A B : Type 0} {inner : Outcome A} {names : List Names}
+    {value : CellsValue A} (f : Closure A B) → ((cs : Cells) → AgreesOn (value cs) f)
+    → EndLaw env A inner names value
+    → EndLaw env B (ClosedEval A B inner f Refused) names (ClosedValue value f)
+closed_end f g l =
+    record { roles = l.roles; program = closed_program g Refused l.program; owns = l.owns }
+
 -- a closure
 pub program_closed_law : {env : Variables} {A B : Type 0} {inner : Outcome A} {names : List Names}
     {words : List (List ℕ)} {s : ProgramForm A} (f : Closure A B) → Agrees f s
     → FormLaw env inner names words s
-    → FormLaw env (ClosedEval A B inner f Refused) names words (program_closed f s)
-program_closed_law {s = alternative wide q value} f g l =
-    record { by = (closed_alternative l.by.0 g, l.by.1) }
-program_closed_law {s = single wide k q group gap} f g l =
-    record { by = (closed_single l.by.0 g.0 g.1, l.by.1) }
-program_closed_law {s = complete wide k q value} f g l =
+    → FormLaw env (ClosedEval A B inner f Refused) names words (unnamed (program_closed f s))
+program_closed_law {s = single wide (OneWord b) q group gap} f g l =
+    record { by = (closed_single l.by.0 g.0, l.by.1) }
+program_closed_law {s = single wide (EachWord b) q group gap} f g l = absurd l.by
+program_closed_law {s = complete wide (OneWord b) q value} f g l =
+    record { by = (closed_law l.by.0 g Refused, l.by.1) }
+program_closed_law {s = complete wide (EachWord b) q value} f g l =
     record { by = (closed_law l.by.0 g Refused, l.by.1) }
 program_closed_law {s = commands false value} f g l = record {
   by = record {
@@ -128,26 +187,15 @@ program_closed_law {s = commands false value} f g l = record {
     owns = l.by.owns;
   };
 }
-program_closed_law {s = commands true value} f g l = record {
-  by = record {
-    roles = l.by.roles;
-    program = closed_program g Refused l.by.program;
-    owns = l.by.owns;
-  };
-}
-program_closed_law {s = before_commands value} f g l = record {
-  by = record {
-    roles = l.by.roles;
-    program = closed_program g Refused l.by.program;
-    owns = l.by.owns;
-  };
-}
-program_closed_law {s = after_parts value} f g l = record {
-  by = record {
-    roles = l.by.roles;
-    program = closed_program g Refused l.by.program;
-    owns = l.by.owns;
-  };
+program_closed_law {s = commands true value} f g l = record { by = closed_end f g l.by }
+program_closed_law {s = before_commands value} f g l = record { by = closed_end f g l.by }
+program_closed_law {s = after_parts value} f g l = record { by = closed_end f g l.by }
+program_closed_law {s = last_choice p own value} f g l = record {
+  by = closed_end f g (record {
+    roles = _;
+    program = last_program l.by.law;
+    owns = both_own l.by.part_owns l.by.owns;
+  });
 }
 program_closed_law f g l = record { by = tt }
 
@@ -156,49 +204,76 @@ pub never_refuses : {A B : Type 0} (f : Closure A B) → ((x : A) → f.no x →
     → Agrees f s
 never_refuses f n x = grind arith
 
--- a repeat or default round a field
+-- a repeat or default round a field or commands
 completed_law : {env : Variables} {T B : Type 0} {inner : Outcome T} {outer : Outcome B}
-    {kind : FieldKind → FieldKind} {names : List Names} {words more : List (List ℕ)}
-    {s : ProgramForm T} (value : Groups T → Gap T → List LinePiece → B → Type 0)
-    → ((k : FieldKind) (q : Roles) → Owns (keys k q) names → Owns (keys (kind k) q) names)
-    → ((k : FieldKind) (q : Roles) (group : Groups T) (gap : Gap T) → SingleLaw env T inner k q
-    group gap → FieldLaw env B outer (kind k) q (value group gap))
-    → FormLaw env inner names words s → FormLaw env outer names more (completed kind value s)
-completed_law value owns law l = grind (arith, alternative_single)
+    {names : List Names} {words more : List (List ℕ)} {s : ProgramForm T}
+    (kind : FieldKind → FieldKind) (value : Groups T → Gap T → List LinePiece → B → Type 0)
+    (round : CellsValue T → CellsValue B) → kind ByName ≡ ByName
+    → ((stops : Bool) (q : Roles) → Owns no_roles names
+    → Owns (keys (kind (OneWord stops)) q) names)
+    → ((stops : Bool) (q : Roles) (group : Groups T) (gap : Gap T) → SingleLaw env T inner stops q
+    group gap → FieldLaw env B outer (kind (OneWord stops)) q (value group gap))
+    → ((r : Roles) (v : CellsValue T) → CommandsLaw env T inner r words v
+    → ProgramLaw env B outer r (round v)) → FormLaw env inner names words s
+    → FormLaw env outer names more (unnamed (completed kind value round s))
+completed_law {env} {T} {B} {inner} {outer} {names} {words} {more} {s} kind value round same owns law
+    of_commands l = by_form s l
+  where
+    by_named : (wide : Bool) (k : FieldKind) (q : Roles) (v : List LinePiece → B → Type 0)
+        → k ≡ ByName → FormLaw env outer names more (unnamed (complete wide k q v))
+    by_named wide ByName q v e = record { by = tt }
+    by_named wide _ q v e = absurd cc
+
+    by_form : (s : ProgramForm T) → FormLaw env inner names words s
+        → FormLaw env outer names more (unnamed (completed kind value round s))
+    by_form (alternative wide q each) l = by_named wide (kind ByName) q _ same
+    by_form (single wide ByName q group gap) l = by_named wide (kind ByName) q _ same
+    by_form (single wide (OneWord stops) q group gap) l =
+        unnamed_law {s = complete wide (kind (OneWord stops)) q (value group gap)}
+        (record { by = (law stops q group gap l.by.0, owns stops q l.by.1) })
+    by_form (single wide (EachWord stops) q group gap) l = absurd l.by
+    by_form (commands false v) l = record {
+      by = record {
+        roles = l.by.roles;
+        program = of_commands l.by.roles v l.by.commands;
+        owns = l.by.owns;
+      };
+    }
+    by_form _ l = record { by = tt }
 
 -- what some, collect and count make of the list; a refusal of theirs may be of any class
 listed_law : {env : Variables} {T B : Type 0} {inner : Outcome T} {names : List Names}
     {words : List (List ℕ)} {s : ProgramForm T} (idle : Bool) (f : Closure (List T) B)
-    (c : ErrorClass) → Agrees f (completed repeated (OwnList T) s) → FormLaw env inner names words s
+    (c : ErrorClass) → Agrees f (unnamed (program_repeat s)) → FormLaw env inner names words s
     → FormLaw env (ClosedEval (List T) B (RepeatOutcome inner idle) f c) names []
-    (program_closed f (completed repeated (OwnList T) s))
-listed_law {s = alternative wide q value} idle f c g l =
-    record { by = (closed_law (repeat_law (alternative_single l.by.0) idle) g c, l.by.1) }
-listed_law {s = single wide k q group gap} idle f c g l =
-    record { by = (closed_law (repeat_law l.by.0 idle) g c, grind (arith, l.by.1)) }
+    (unnamed (program_closed f (program_repeat s)))
+listed_law {s = single wide (OneWord b) q group gap} idle f c g l =
+    record { by = (closed_law (repeat_law l.by.0 idle) g c, l.by.1) }
+listed_law {s = single wide (EachWord b) q group gap} idle f c g l = absurd l.by
+listed_law {s = commands false value} idle f c g l = record {
+  by = record {
+    roles = l.by.roles;
+    program = closed_program g c (repeat_commands l.by.commands idle);
+    owns = l.by.owns;
+  };
+}
 listed_law idle f c g l = record { by = tt }
 
--- some needs no premise: of the lists that the same pieces give, all are empty or none is
+-- some needs no premise: of the lists that the same pieces or cells give, all are empty or none is
 some_agrees : {env : Variables} {T : Type 0} {inner : Outcome T} {names : List Names}
     {words : List (List ℕ)} {s : ProgramForm T} → FormLaw env inner names words s
-    → Agrees (some_closure T) (completed repeated (OwnList T) s)
-some_agrees {s = alternative wide q value} l = some_agrees_on (alternative_single l.by.0)
-some_agrees {s = single wide k q group gap} l = some_agrees_on l.by.0
+    → Agrees (some_closure T) (unnamed (program_repeat s))
+some_agrees {s = single wide (OneWord b) q group gap} l = some_agrees_on l.by.0
+some_agrees {s = single wide (EachWord b) q group gap} l = absurd l.by
+some_agrees {s = commands false value} l = some_commands_agree l.by.commands
 some_agrees l = tt
 
 -- what may be left out
 program_optional_law : {env : Variables} {T : Type 0} {inner : Outcome T} {names : List Names}
     {words : List (List ℕ)} {s : ProgramForm T} → FormLaw env inner names words s
-    → FormLaw env (OptionalEval T inner) names [] (program_optional s)
-program_optional_law {s = commands false value} l = record {
-  by = record {
-    roles = l.by.roles;
-    program = optional_commands l.by.commands;
-    owns = l.by.owns;
-  };
-}
-program_optional_law {T} l =
-    completed_law (OptionalValue T) (λ k q o. o) (λ k q group gap l. left_out_law l) l
+    → FormLaw env (OptionalEval T inner) names [] (unnamed (program_optional s))
+program_optional_law {T} l = completed_law (λ k. k) (OptionalValue T) (OptionalCommands T) refl
+    (λ k q o. o) (λ k q group gap l. left_out_law l) (λ r v l. optional_commands l) l
 
 -- an item is one word
 same_word : (word other : List ℕ) (k : Arg) → is_command_word word k ≡ true
@@ -220,23 +295,144 @@ words_apart words others apart k h = false_from_ne_true (is_one_of others k)
 pub program_choice_law : {env : Variables} {T : Type 0} {a b : Outcome T} {own others : List Names}
     {words more : List (List ℕ)} {s t : ProgramForm T} → FormLaw env a own words s
     → FormLaw env b others more t → FormLaw env (ChoiceOutcome a b) (own ++ others) (words ++ more)
-    (program_choice own others words more s t)
-program_choice_law {own} {others} {s = alternative wide q x} {t = alternative other r y} la lb =
-    if_law (are_all_apart own others) (λ h. record {
-      by = (
-        choice_law la.by.0 lb.by.0 (apart_of_names la.by.1 lb.by.1 h),
-        either_owns la.by.1 lb.by.1,
-      );
-    })
+    (unnamed (program_choice own others words more s t))
 program_choice_law {words} {more} {s = commands false x} {t = commands false y} la lb =
-    if_law (are_words_apart words more) (λ h. record {
+    unnamed_law (if_law (are_words_apart words more) (λ h. record {
       by = record {
         roles = either la.by.roles lb.by.roles;
         commands = choice_commands la.by.commands lb.by.commands (words_apart words more h);
         owns = either_owns la.by.owns lb.by.owns;
       };
-    })
-program_choice_law la lb = record { by = tt }
+    }))
+program_choice_law la lb = grind arith
+
+-- commands or a named part, as a choice of such
+pub as_last_law : {env : Variables} {T : Type 0} {a : Outcome T} {names : List Names}
+    {words : List (List ℕ)} {p : PartForm T} {s : ProgramForm T} → FormLaw env a names words s
+    → PartFormLaw env a names p → FormLaw env a names words (as_last words p s)
+as_last_law {names} {s = commands false value} l lp = record {
+  by = record {
+    roles = l.by.roles;
+    law = commands_last_law l.by.commands;
+    owns = l.by.owns;
+    part_owns = record { own = λ k e. absurd cc };
+    among = λ k h. h;
+  };
+}
+as_last_law {s = last_choice q own value} l lp = record { by = l.by }
+as_last_law {p = some_part q} l lp = record {
+  by = record {
+    roles = q.roles;
+    law = part_last_law lp.by.0;
+    owns = lp.by.1;
+    part_owns = lp.by.1;
+    among = λ k h. absurd (true≢false (sym h));
+  };
+}
+as_last_law {p = no_part} l lp = record { by = tt }
+
+-- the parts of two such are apart
+abbrev pub PartsApart : {T : Type 0} → ProgramForm T → ProgramForm T → Type 0
+PartsApart (last_choice p own a) (last_choice q others b) = Apart p.roles q.roles
+PartsApart _ _ = Unit {0}
+
+-- what is among them is among theirs
+among_both : (x y words more : List (List ℕ)) (k : Arg)
+    → (is_one_of x k ≡ true → is_one_of words k ≡ true)
+    → (is_one_of y k ≡ true → is_one_of more k ≡ true) → is_one_of (x ++ y) k ≡ true
+    → is_one_of (words ++ more) k ≡ true
+among_both x y words more k f g h =
+    list_any-append (λ word. is_command_word word k) words more ∙ ⊎_elim
+    (λ i. or_left _ (is_one_of more k) (f i)) (λ i. or_right (is_one_of words k) _ (g i))
+    (or_cases (is_one_of x k) (is_one_of y k)
+    (sym (list_any-append (λ word. is_command_word word k) x y) ∙ h))
+
+-- words among those that are apart are
+pub own_apart : {env : Variables} {T : Type 0} {a b : Outcome T} {own others : List Names}
+    {words more x y : List (List ℕ)} {p q : Part T} {v w : CellsValue T}
+    → ChosenLaw env a own words p x v → ChosenLaw env b others more q y w → WordsApart words more
+    → WordsApart x y
+own_apart {y = y} la lb words_apart k h = false_from_ne_true (is_one_of y k)
+    (λ i. true≢false (sym (lb.among k i) ∙ words_apart k (la.among k h)))
+
+-- a choice of two such
+pub both_last_law : {env : Variables} {T : Type 0} {a b : Outcome T} {own others : List Names}
+    {words more : List (List ℕ)} (s t : ProgramForm T) → WordsApart words more → PartsApart s t
+    → FormLaw env a own words s → FormLaw env b others more t
+    → FormLaw env (ChoiceOutcome a b) (own ++ others) (words ++ more) (both_last s t)
+both_last_law {words} {more} (last_choice p x v) (last_choice q y w) words_apart apart la lb =
+    record {
+      by = record {
+        roles = either la.by.roles lb.by.roles;
+        law = last_choice_law la.by.law lb.by.law (own_apart la.by lb.by words_apart) apart;
+        owns = either_owns la.by.owns lb.by.owns;
+        part_owns = either_owns la.by.part_owns lb.by.part_owns;
+        among = λ k h. among_both x y words more k (la.by.among k) (lb.by.among k) h;
+      };
+    }
+both_last_law _ _ words_apart apart la lb = record { by = tt }
+
+-- where the keys are, or one has no part
+pub parts_apart : {env : Variables} {T : Type 0} {a b : Outcome T} (own others : List Names)
+    {words more : List (List ℕ)} (s t : ProgramForm T) (p r : PartForm T)
+    → FormLaw env a own words (as_last words p s) → FormLaw env b others more (as_last more r t)
+    → (are_all_apart own others || (is_commands s || is_commands t)) ≡ true
+    → PartsApart (as_last words p s) (as_last more r t)
+parts_apart {env} {T} {a} {b} own others {words} {more} s t p r x y h =
+    by_test (are_all_apart own others) refl
+  where
+    by_names : (u w : ProgramForm T) → FormLaw env a own words u → FormLaw env b others more w
+        → are_all_apart own others ≡ true → PartsApart u w
+    by_names (last_choice p c v) (last_choice q d w) x y e =
+        apart_of_names x.by.part_owns y.by.part_owns e
+    by_names _ _ x y e = tt
+
+    never_apart : (q : Roles) → Apart no_roles q
+    never_apart q = record { left = λ k e. absurd cc; right = λ k e. refl }
+
+    by_left : (own : List (List ℕ)) (v : CellsValue T) (w : ProgramForm T)
+        → PartsApart (last_choice never_part own v) w
+    by_left own v (last_choice q others b) = never_apart q.roles
+    by_left own v _ = tt
+
+    by_right : (u : ProgramForm T) (own : List (List ℕ)) (v : CellsValue T)
+        → PartsApart u (last_choice never_part own v)
+    by_right (last_choice q others b) own v = swap_apart (never_apart q.roles)
+    by_right _ own v = tt
+
+    by_commands : (s t : ProgramForm T) → (is_commands s || is_commands t) ≡ true
+        → PartsApart (as_last words p s) (as_last more r t)
+    by_commands (commands false v) t h = by_left words v (as_last more r t)
+    by_commands s (commands false v) h = by_right (as_last words p s) more v
+    by_commands _ _ h = absurd cc
+
+    by_test : (z : Bool) → are_all_apart own others ≡ z
+        → PartsApart (as_last words p s) (as_last more r t)
+    by_test true e = by_names (as_last words p s) (as_last more r t) x y e
+    by_test false e = by_commands s t (sym (ap (λ z. z || (is_commands s || is_commands t)) e) ∙ h)
+
+-- where a form is no program, another
+or_form_law : {env : Variables} {T : Type 0} {outcome : Outcome T} {names : List Names}
+    {words : List (List ℕ)} (s t : ProgramForm T)
+    → FormLaw env outcome names words (unnamed s)
+    → FormLaw env outcome names words (unnamed t)
+    → FormLaw env outcome names words (unnamed (or_form s t))
+or_form_law s t l m = grind arith
+
+-- a choice of two, which are named parts too or aren't
+pub program_either_law : {env : Variables} {T : Type 0} {a b : Outcome T} {own others : List Names}
+    {words more : List (List ℕ)} {p r : PartForm T} {s t : ProgramForm T}
+    → FormLaw env a own words s → FormLaw env b others more t → PartFormLaw env a own p
+    → PartFormLaw env b others r → FormLaw env (ChoiceOutcome a b) (own ++ others) (words ++ more)
+    (unnamed (program_either own others words more p r s t))
+program_either_law {own} {others} {words} {more} {p} {r} {s} {t} la lb pa pb =
+    let x = as_last_law la pa in
+    let y = as_last_law lb pb in
+    or_form_law _ _ (program_choice_law la lb) (unnamed_law (if_law (are_words_apart words more
+    && (are_all_apart own others || (is_commands s || is_commands t)))
+    (λ h. let tests = and_parts (are_words_apart words more) _ h in
+    both_last_law (as_last words p s) (as_last more r t) (words_apart words more tests.0)
+    (parts_apart own others s t p r x y tests.1) x y)))
 
 -- a product of fields, or what ends in commands, keeps to the laws of a program
 end_law : {env : Variables} {T : Type 0} {outcome : Outcome T} {names : List Names}
@@ -268,15 +464,14 @@ module _ {env : Variables} {T : Type 0} {outcome : Outcome T} {names : List Name
   -- a field of a product, which may be a product of named fields
   pub program_field_law : {s : ProgramForm T} → FormLaw env outcome names words s
       → FormLaw env outcome names words (program_field s)
-  program_field_law {s = product wide true q fields} l = record { by = (l.by.2, l.by.1) }
-  program_field_law {s = product wide false q fields} l = record { by = l.by }
-  program_field_law {s = complete wide k q value} l = l
-  program_field_law {s = commands optional value} l = l
-  program_field_law {s = before_commands value} l = l
-  program_field_law {s = part p} l = l
-  program_field_law {s = after_parts value} l = l
-  program_field_law l =
-      completed_law (SingleValue T) (λ k q o. o) (λ k q group gap l. single_law l) l
+  program_field_law {s = last_choice p own value} l = record {
+    by = record {
+      roles = _;
+      program = last_program l.by.law;
+      owns = both_own l.by.part_owns l.by.owns;
+    };
+  }
+  program_field_law l = grind (arith, single_law)
 
   -- the last field, or one alone
   pub program_alone_law : {s : ProgramForm T} → FormLaw env outcome names words s
@@ -397,6 +592,12 @@ program_both_law {own} {others} {s = part p} {t = after_parts rv} la lb =
     part_before own others la lb.by.program lb.by.owns
 program_both_law la lb = record { by = tt }
 
+-- the constructor of what ends in commands
+con_end : {env : Variables} {A B : Type 0} {inner : Outcome A} {names : List Names}
+    {value : CellsValue A} (makes : A → B → Type 0) → EndLaw env A inner names value
+    → EndLaw env B (ProductOutcome inner makes) names (ClosedValue value (map_closure makes))
+con_end makes l = record { roles = l.roles; program = con_program makes l.program; owns = l.owns }
+
 -- the constructor of a product
 pub program_con_law : {env : Variables} {A B : Type 0} {inner : Outcome A} {names : List Names}
     {s : ProgramForm A} (makes : A → B → Type 0) → FormLaw env inner names [] s
@@ -409,30 +610,19 @@ program_con_law {env} {A} {B} {inner} {s = product wide named q fields} makes l 
         (ClosedValue fields.value (map_closure makes))
     by_name true l = named_con_law makes l
     by_name false l = tt
-program_con_law {s = before_commands value} makes l = record {
-  by = record {
-    roles = l.by.roles;
-    program = con_program makes l.by.program;
-    owns = l.by.owns;
-  };
-}
-program_con_law {s = after_parts value} makes l = record {
-  by = record {
-    roles = l.by.roles;
-    program = con_program makes l.by.program;
-    owns = l.by.owns;
-  };
-}
+program_con_law {s = before_commands value} makes l = record { by = con_end makes l.by }
+program_con_law {s = after_parts value} makes l = record { by = con_end makes l.by }
 program_con_law makes l = record { by = tt }
 
 -- what is a part, or as it was
 pub or_part_law : {env : Variables} {T : Type 0} {outcome : Outcome T} {names : List Names}
     {words : List (List ℕ)} (s : ProgramForm T) (p : PartForm T)
-    → FormLaw env outcome names words s → PartFormLaw env outcome names p
-    → FormLaw env outcome names words (or_part s p)
-or_part_law no_program (some_part p) l lp = record { by = lp.by }
-or_part_law (after_parts value) (some_part p) l lp = record { by = lp.by }
-or_part_law s p l lp = grind arith
+    → FormReads names (or_part s p) p → FormLaw env outcome names words (unnamed s)
+    → PartFormLaw env outcome names p → FormLaw env outcome names words (or_part s p)
+or_part_law no_program (some_part p) r l lp = record { by = lp.by }
+or_part_law (last_choice q own value) (some_part p) r l lp = record { by = lp.by }
+or_part_law (after_parts value) (some_part p) r l lp = record { by = lp.by }
+or_part_law s p r l lp = named_law _ p r l lp
 
 -- THE THEOREM: on every line, spelled by words, an answer of a run of a program is a value only
 -- where that is one of the program's; and where it has a value, it is one, or want of memory.
@@ -476,18 +666,14 @@ narrower_form n l = grind (arith, narrower, narrower_program, narrower_part)
 -- what a repeat makes of a field, by what is made of its list; with `catch` it is none
 abbrev pub repeated_form : {T B : Type 0} → Bool → Closure (List T) B → ProgramForm T
     → ProgramForm B
-repeated_form {T} catch f s =
-    program_if (not catch) (program_closed f (completed repeated (OwnList T) s))
-
--- what has a value that stands for it
-abbrev pub fallback_form : {T : Type 0} → Closure (Unit {0}) T → ProgramForm T → ProgramForm T
-fallback_form {T} f = completed (λ k. k) (λ group gap. FallbackValue T group gap f)
+repeated_form catch f s = program_if (not catch) (program_closed f (program_repeat s))
 
 module _ {env : Variables} {A : Type 0} {inner : Outcome A} {names : List Names}
     {words : List (List ℕ)} {s : ProgramForm A} (l : FormLaw env inner names words s) where
   -- Each keeps to the laws of its form: map
   pub map_law : {B : Type 0} (answers : A → B → Type 0)
-      → FormLaw env (MapOutcome inner answers) names words (program_closed (map_closure answers) s)
+      → FormLaw env (MapOutcome inner answers) names words
+      (unnamed (program_closed (map_closure answers) s))
   map_law {B} answers = narrower_form (no_more (map_table answers)) (program_closed_law
       (map_closure answers) (never_refuses (map_closure answers) (λ x n. n) s) l)
 
@@ -495,14 +681,14 @@ module _ {env : Variables} {A : Type 0} {inner : Outcome A} {names : List Names}
   pub parse_law : {B E : Type 0} (answers : A → Result B E → Type 0)
       (shown : E → Option (List ℕ)) → Agrees (parse_closure answers) s
       → FormLaw env (ParseOutcome inner answers shown) names words
-      (program_closed (parse_closure answers) s)
+      (unnamed (program_closed (parse_closure answers) s))
   parse_law answers shown agrees = narrower_form (no_more (parse_table answers shown))
       (program_closed_law (parse_closure answers) agrees l)
 
   -- guard
   pub guard_law : (checks : A → Bool → Type 0) (message : List ℕ)
       → Agrees (guard_closure checks) s → FormLaw env (GuardOutcome inner checks message) names
-      words (program_closed (guard_closure checks) s)
+      words (unnamed (program_closed (guard_closure checks) s))
   guard_law checks message agrees = narrower_form (no_more (guard_table checks message))
       (program_closed_law (guard_closure checks) agrees l)
 
@@ -512,65 +698,67 @@ module _ {env : Variables} {A : Type 0} {inner : Outcome A} {names : List Names}
 
   -- optional
   pub optional_law : (catch : Bool) → FormLaw env (TurnOutcome inner catch true) names []
-      (program_if (not catch) (program_optional s))
+      (unnamed (program_if (not catch) (program_optional s)))
   optional_law true = record { by = tt }
   optional_law false = narrower_form (no_more optional_table) (program_optional_law l)
 
   -- what answers no more than a closure on the list of a repeat without `catch` keeps to its laws
   repeated_form_law : {B : Type 0} {f : Closure (List A) B} {c : ErrorClass} (idle catch : Bool)
-      (outcome : Bool → Outcome B) → Agrees f (completed repeated (OwnList A) s)
+      (outcome : Bool → Outcome B) → Agrees f (unnamed (program_repeat s))
       → ((s t : Situation) (r : Result B Error) → outcome false s r t
       → ClosedEval (List A) B (RepeatOutcome inner idle) f c s r t)
-      → FormLaw env (outcome catch) names [] (repeated_form catch f s)
+      → FormLaw env (outcome catch) names [] (unnamed (repeated_form catch f s))
   repeated_form_law idle true outcome agrees within = record { by = tt }
   repeated_form_law {f} {c} idle false outcome agrees within =
       narrower_form (no_more within) (listed_law idle f c agrees l)
 
   -- many
   pub many_law : (catch : Bool)
-      → FormLaw env (ManyOutcome inner catch) names [] (repeated_form catch (list_closure A) s)
+      → FormLaw env (ManyOutcome inner catch) names []
+      (unnamed (repeated_form catch (list_closure A) s))
   many_law catch = repeated_form_law false catch (ManyOutcome inner)
       (never_refuses (list_closure A) (λ x n. n) _) many_table
 
   -- some
   pub some_law : (catch : Bool) (message : List ℕ) → FormLaw env (SomeOutcome inner catch message)
-      names [] (repeated_form catch (some_closure A) s)
+      names [] (unnamed (repeated_form catch (some_closure A) s))
   some_law catch message = repeated_form_law false catch (λ c. SomeOutcome inner c message)
       (some_agrees l) (some_table message)
 
   -- collect
   pub collect_law : {C : Type 0} (catch : Bool) (fills : List A → C → Type 0)
       → FormLaw env (CollectOutcome inner catch fills) names []
-      (repeated_form catch (map_closure fills) s)
+      (unnamed (repeated_form catch (map_closure fills) s))
   collect_law catch fills = repeated_form_law false catch (λ c. CollectOutcome inner c fills)
       (never_refuses (map_closure fills) (λ x n. n) _) (collect_table fills)
 
   -- count
   pub count_law : FormLaw env (CountOutcome inner) names []
-      (repeated_form false (map_closure (λ vs n. n ≡ length vs)) s)
+      (unnamed (repeated_form false (map_closure (λ vs n. n ≡ length vs)) s))
   count_law = repeated_form_law true false (λ c. CountOutcome inner)
       (never_refuses (map_closure (λ vs n. n ≡ length vs)) (λ x n. n) _) count_table
 
   -- last
-  pub program_last_law : FormLaw env (LastOutcome inner) names [] (completed repeated (LastOf A) s)
-  program_last_law =
-      completed_law (LastOf A) (λ k q. (λ o. grind arith)) (λ k q group gap l. last_of_law l) l
+  pub program_last_law : FormLaw env (LastOutcome inner) names [] (unnamed (program_last s))
+  program_last_law = completed_law repeated (LastOf A) (λ value. value) refl (λ k q o. o)
+      (λ k q group gap l. last_of_law l) (λ r v l. last_commands l) l
 
   -- what gives a value in place of an inner one, as a closure on nothing does, keeps to its laws
   fallback_form_law : (gives : Gives A) (f : Closure (Unit {0}) A) → Decides f
       → ((v : A) → gives (Ok v) → f.yes tt v)
       → ((e : Error) → gives (Err e) → (class e ≡ OfMemory)
       ⊎ (f.no tt × (class e ≡ Caught) × (is_wrong_input e.0 ≡ false)))
-      → FormLaw env (FallbackOutcome inner gives) names [] (fallback_form f s)
+      → FormLaw env (FallbackOutcome inner gives) names [] (unnamed (program_default f s))
   fallback_form_law gives f decides gave refused =
       narrower_form (no_more (fallback_table gives f gave refused))
-      (completed_law (λ group gap. FallbackValue A group gap f) (λ k q o. o)
-      (λ k q group gap l. fallback_field l decides) l)
+      (completed_law (λ k. k) (λ group gap. FallbackValue A group gap f)
+      (DefaultCommands A (f.yes tt)) refl (λ k q o. o)
+      (λ k q group gap l. fallback_field l decides) (λ r v l. default_commands l decides) l)
 
   -- a kept value
   pub fallback_law : (clones : A → A → Type 0) (kept : A)
       → FormLaw env (FallbackOutcome inner (GivesClone clones kept)) names []
-      (fallback_form (map_closure (λ u. clones kept)) s)
+      (unnamed (program_default (map_closure (λ u. clones kept)) s))
   fallback_law clones kept =
       fallback_form_law (GivesClone clones kept) (map_closure (λ u. clones kept))
       (λ u v y n. n) (λ v g. g) (λ e g. inl (memory_class e.0 g))
@@ -579,7 +767,7 @@ module _ {env : Variables} {A : Type 0} {inner : Outcome A} {names : List Names}
   pub fallback_with_law : {E : Type 0} (answers : Result A E → Type 0)
       (shown : E → Option (List ℕ)) → Decides (answer_closure answers)
       → FormLaw env (FallbackOutcome inner (GivesAnswer answers shown)) names []
-      (fallback_form (answer_closure answers) s)
+      (unnamed (program_default (answer_closure answers) s))
   fallback_with_law answers shown decides =
       fallback_form_law (GivesAnswer answers shown) (answer_closure answers) decides
       (λ v g. g) (λ e g. ⊎_elim (λ memory. inl (ap error_class memory))

@@ -5,7 +5,7 @@ use Rattle.bpaf_exact.proofs.Names.{first_within, mine_within, none_behind, othe
 use Rattle.bpaf_exact.proofs.Names.{others_none, others_rest, mine_keyed, others_fit, mine_rest}
 use Rattle.bpaf_exact.proofs.Names.{both_fits, taken_own, mine_none, all_front, all_mine, each_own}
 use Rattle.bpaf_exact.specs.Flat.{FieldsReading, FallbackValue, OptionalValue, both_reading, ByName}
-use Rattle.bpaf_exact.specs.Flat.{SingleValue, ClosedValue, FieldKind, repeated, OwnList, Closure}
+use Rattle.bpaf_exact.specs.Flat.{SingleValue, ClosedValue, FieldKind, OwnList, Closure}
 use Rattle.bpaf_exact.specs.Pieces.{are_all_apart, LinePiece, no_roles, either, others, Roles, Owns}
 use Rattle.bpaf_exact.specs.ProgramForm.{OptionalCommands, program_optional, before_commands}
 use Rattle.bpaf_exact.specs.ProgramForm.{program_command, program_dressed, product_reading, single}
@@ -18,15 +18,18 @@ use Rattle.bpaf_exact.specs.Says.{FieldThenSays, repeated_kind, FallbackSays, Op
 use Rattle.bpaf_exact.specs.Says.{RepeatSays, EitherSays, FieldsSaid, RecordSays, keyed}
 use Rattle.bpaf_exact.specs.Says.{AloneSays, FieldsSay, FrontSays, form_kind, FormSays, LastSays}
 use Rattle.bpaf_exact.specs.Says.{MadeSays, SaidKind, of_kind, AllOwn, IsSaid, OwnBy, Said, Says}
-use Rattle.std.proofs.Common.{Some, not, sym, ◌∙◌, ◌∷◌, ◌≡◌, [], ap, ℕ}
+use Rattle.std.proofs.Common.{not, sym, ◌∙◌, ◌∷◌, ◌≡◌, [], ap, ℕ}
 use Rattle.bpaf_doc.specs.Names.{Names}
 use Rattle.bpaf_laws.specs.Command.{opening_words, Called}
 use Rattle.bpaf_exact.proofs.Says.{fallback_by, optional_by, front_says, whole_says, list_says}
 use Rattle.bpaf_exact.proofs.Names.{rest_fit, own_fit, no_fits, cut_fit}
 use Rattle.bpaf_exact.proofs.OwnedKeys.{whole_owns, OwnsKeys}
+use Rattle.bpaf_exact.specs.ProgramForm.{DefaultCommands, RepeatCommands, program_default}
+use Rattle.bpaf_exact.specs.ProgramForm.{program_last, program_repeat}
 use Rattle.bpaf_exact.specs.ProgramForm.{commands, complete, product, part, after_parts, or_part}
 use Rattle.bpaf_exact.specs.Flat.{Groups, gap_of, LastOf, front, back, keys, Gap}
 use Rattle.bpaf_exact.specs.{Pieces.Cells, Pieces.Cut, Pieces.mine, Says.scope_told, Parts.PartForm}
+use Rattle.bpaf_exact.specs.ProgramForm.{as_last, both_last, or_form, program_either, last_choice}
 
 -- where a test holds
 if_says : {T : Type 0} (b : Bool) {s : ProgramForm T} {kind : SaidKind} {names : List Names}
@@ -47,85 +50,56 @@ pub program_closed_says : {A B : Type 0} {s : ProgramForm A} {kind : SaidKind} {
     → Says names (program_closed f s) kind c (MadeSays said f) (ClosedValue cells f)
 program_closed_says f h = grind (arith, closed_said)
 
--- a repeat or default round a field, of which each value says so
+-- a repeat or default round a field or commands, of which each value says so
 whole_form_says : {T B : Type 0} {kind : FieldKind → FieldKind} (lift : SaidKind → SaidKind)
     → ((k : FieldKind) → lift (of_kind k) ≡ of_kind (kind k))
-    → (value : Groups T → Gap T → List LinePiece → B → Type 0) {said : Said T} (whole : Said B)
+    → (value : Groups T → Gap T → List LinePiece → B → Type 0)
+    (round : CellsValue T → CellsValue B) {said : Said T} (whole : Said B)
     → ((group : Groups T) (gap : Gap T) → ((os rest : List LinePiece) (v : T) → group os v rest
     → FrontSays said os v rest) → ((v : T) → gap.absent v
     → said [] v) → (os : List LinePiece) (v : B) → value group gap os v → whole os v)
-    → {names : List Names} {j : SaidKind} {c : Bool} {cells : CellsValue T} {others : CellsValue B}
-    {s : ProgramForm T} → Says names s j c said cells
-    → Says names (completed kind value s) (lift j) c whole others
-whole_form_says lift lifts value whole each h = grind (arith, front_says)
-
--- what may be left out
-optional_says : {T : Type 0} {s : ProgramForm T} {kind : SaidKind} {names : List Names} {c : Bool}
-    {said : Said T} {cells : CellsValue T} → Says names s kind c said cells
-    → Says names (program_optional s) kind c (OptionalSays said) (OptionalCommands T cells)
-optional_says {T} {s = commands false value} {cells} h = record { by = (h.by.0, by_value) }
-  where
-    by_value : IsSaid (OptionalCommands T value) (OptionalCommands T cells)
-    by_value cs (Some v) m = h.by.1 cs v m
-    by_value cs None none = none
-optional_says {T} {said} h =
-    whole_form_says (λ j. j) (λ k. refl) (OptionalValue T) (OptionalSays said) (optional_by said) h
+    → {names : List Names} {j : SaidKind} {c : Bool} {cells : CellsValue T}
+    → ((v : CellsValue T) → IsSaid v cells → IsSaid (round v) (round cells))
+    → {s : ProgramForm T} → Says names s j c said cells
+    → Says names (completed kind value round s) (lift j) c whole (round cells)
+whole_form_says lift lifts value round whole each more h = grind (arith, front_says)
 
 module _ {T : Type 0} {s : ProgramForm T} {kind : SaidKind} {names : List Names} {c : Bool}
     {said : Said T} {cells : CellsValue T} (h : Says names s kind c said cells) where
   -- under `many`, `some`, `collect` or `count`
-  pub program_repeat_says : {B : Type 0} {closed : CellsValue B} (catch : Bool)
-      (f : Closure (List T) B)
-      → Says names (program_if (not catch) (program_closed f (completed repeated (OwnList T) s)))
-      (repeated_kind kind) c (MadeSays (RepeatSays said) f) closed
-  program_repeat_says {B} {closed} catch f = if_says (not catch) (list_closed s
-      (whole_form_says repeated_kind (λ k. refl) (OwnList T) (RepeatSays said) (list_says said) h))
-    where
-      list_closed : (s : ProgramForm T)
-          → Says names (completed repeated (OwnList T) s) (repeated_kind kind) c (RepeatSays said)
-          (λ cs v. ⊥)
-          → Says names (program_closed f (completed repeated (OwnList T) s)) (repeated_kind kind) c
-          (MadeSays (RepeatSays said) f) closed
-      list_closed (alternative wide q value) h = record {
-        by = (
-          h.by.0,
-          h.by.1,
-          λ os v all m. record { from = m.from; told = h.by.2 os m.from all m.read; made = m.made },
-        );
-      }
-      list_closed (single wide k q group gap) h = record {
-        by = (
-          h.by.0,
-          h.by.1,
-          λ os v all m. record { from = m.from; told = h.by.2 os m.from all m.read; made = m.made },
-        );
-      }
-      list_closed _ h = record { by = tt }
+  pub program_repeat_says : {B : Type 0} (catch : Bool) (f : Closure (List T) B)
+      → Says names (program_if (not catch) (program_closed f (program_repeat s)))
+      (repeated_kind kind) c (MadeSays (RepeatSays said) f) (ClosedValue (RepeatCommands T cells) f)
+  program_repeat_says catch f = if_says (not catch) (program_closed_says f
+      (whole_form_says repeated_kind (λ k. refl) (OwnList T) (RepeatCommands T) (RepeatSays said)
+      (list_says said) (λ v more cs vs m. grind arith) h))
 
   -- the last value of a repeat
-  pub program_last_says : Says names (completed repeated (LastOf T) s) (repeated_kind kind) c
-      (LastSays said) (λ cs v. ⊥)
-  program_last_says = whole_form_says repeated_kind (λ k. refl) (LastOf T) (LastSays said)
-      (λ group gap fronts absent os v m. record {
+  pub program_last_says : Says names (program_last s) (repeated_kind kind) c (LastSays said) cells
+  program_last_says = whole_form_says repeated_kind (λ k. refl) (LastOf T) (λ value. value)
+      (LastSays said) (λ group gap fronts absent os v m. record {
         values = m.0 ++ v ∷ [];
         told = list_says said group gap fronts absent os (m.0 ++ v ∷ []) m.1;
         is = record { before = m.0; is = refl };
-      }) h
+      }) (λ v more. more) h
 
   -- under a fallback
   pub program_fallback_says : (f : Closure (Unit {0}) T)
-      → Says names (completed (λ k. k) (λ group gap. FallbackValue T group gap f) s) kind c
-      (FallbackSays said (f.yes tt)) (λ cs v. ⊥)
+      → Says names (program_default f s) kind c (FallbackSays said (f.yes tt))
+      (DefaultCommands T (f.yes tt) cells)
   program_fallback_says f =
       whole_form_says (λ j. j) (λ k. refl) (λ group gap. FallbackValue T group gap f)
-      (FallbackSays said (f.yes tt))
-      (λ group gap fronts absent. fallback_by said group gap fronts absent f) h
+      (DefaultCommands T (f.yes tt)) (FallbackSays said (f.yes tt))
+      (λ group gap fronts absent. fallback_by said group gap fronts absent f)
+      (λ v more cs x m. grind arith) h
 
   -- under `optional`
   pub program_optional_says : (catch : Bool)
       → Says names (program_if (not catch) (program_optional s)) kind c (OptionalSays said)
       (OptionalCommands T cells)
-  program_optional_says catch = if_says (not catch) (optional_says h)
+  program_optional_says catch = if_says (not catch) (whole_form_says (λ j. j) (λ k. refl)
+      (OptionalValue T) (OptionalCommands T) (OptionalSays said) (optional_by said)
+      (λ v more cs x m. grind arith) h)
 
 -- with another look
 pub program_dressed_says : {T : Type 0} {s : ProgramForm T} {kind : SaidKind} {names : List Names}
@@ -150,9 +124,11 @@ field_says {s = complete wide k q value} own h = h
 field_says {s = commands optional value} own h = h
 field_says {s = before_commands value} own h = h
 field_says {s = part p} own h = record { by = tt }
+field_says {s = last_choice p c value} own h = record { by = tt }
 field_says {s = after_parts value} own h = record { by = tt }
 field_says {T} {said} own h =
-    whole_form_says (λ j. j) (λ k. refl) (SingleValue T) said (whole_says said) h
+    whole_form_says (λ j. j) (λ k. refl) (SingleValue T) (λ value. value) said (whole_says said)
+    (λ v more. more) h
 
 -- each value of a whole program of this form says so of all pieces of a line, or of the cells
 abbrev WholeSays : {T : Type 0} → List Names → ProgramForm T → Bool → Said T → CellsValue T → Type 0
@@ -191,6 +167,7 @@ record_says {T} s {kind} {names} {c} {said} {cells} h = by_form s h.by
     by_form (commands optional value) h = h
     by_form (before_commands value) h = h
     by_form (part p) h = tt
+    by_form (last_choice p own value) h = tt
     by_form (after_parts value) h = tt
     by_form no_program h = tt
 
@@ -247,12 +224,32 @@ pub only_says : {T : Type 0} {s : ProgramForm T} {kind : SaidKind} {names : List
 only_says h = grind arith
 
 -- of two
-pub program_choice_says : {T : Type 0} {s t : ProgramForm T} {j k : SaidKind} {a b : Said T}
+program_choice_says : {T : Type 0} {s t : ProgramForm T} {j k : SaidKind} {a b : Said T}
     {x y : CellsValue T} {c d : Bool} (own others : List Names) (words more : List (List ℕ))
     → Says own s j c a x → Says others t k d b y
     → Says (own ++ others) (program_choice own others words more s t) (of_kind ByName) c
     (EitherSays a b) (ChoiceValue T x y)
 program_choice_says own others words more h g = grind (arith, if_says)
+
+-- where a form is no program, another
+or_form_says : {T : Type 0} {s t : ProgramForm T} {kind : SaidKind} {names : List Names} {c : Bool}
+    {said : Said T} {cells : CellsValue T} → Says names s kind c said cells
+    → Says names t kind c said cells → Says names (or_form s t) kind c said cells
+or_form_says h g = grind arith
+
+-- a choice of two, which may be named parts
+pub program_either_says : {T : Type 0} {s t : ProgramForm T} {j k : SaidKind} {a b : Said T}
+    {x y : CellsValue T} {c d : Bool} (own others : List Names) (words more : List (List ℕ))
+    (p r : PartForm T) → Says own s j c a x → Says others t k d b y
+    → Says (own ++ others) (program_either own others words more p r s t) (of_kind ByName) c
+    (EitherSays a b) (ChoiceValue T x y)
+program_either_says {s} {t} own others words more p r h g =
+    or_form_says (program_choice_says own others words more h g)
+    (if_says _ (of_both (as_last words p s) (as_last more r t)))
+  where
+    of_both : {T : Type 0} {names : List Names} {kind : SaidKind} {c : Bool} {said : Said T}
+        {cells : CellsValue T} (s t : ProgramForm T) → Says names (both_last s t) kind c said cells
+    of_both s t = grind arith
 
 -- what may be a part
 pub or_part_says : {T : Type 0} {s : ProgramForm T} {kind : SaidKind} {names : List Names}

@@ -9,12 +9,12 @@ use Rattle.std.specs.{Option.option_map_or, List.list_any}
 use Rattle.bpaf_base.specs.declared.arg.Arg.TheVariants.{Short, Long}
 use Rattle.bpaf_base.specs.{declared.arg.Arg.Arg, Items.any_item, Items.is_key}
 use Rattle.bpaf_line.proofs.Places.{open_item_there, match_is_open, open_in_scope, taken_other}
-use Rattle.bpaf_line.specs.Situation.{Situation, in_scope, is_taken, item_at}
 use Rattle.bpaf_line.proofs.Places.{taken_stays, taken_here}
+use Rattle.bpaf_line.specs.Situation.{Situation, in_scope, is_taken, item_at, open_count}
 use Rattle.bpaf_line.specs.{declared.error.Error.Error, Taking.open_item}
 use Rattle.bpaf_laws.specs.Command.{opening_words, IsNotOpened, IsOpenedAt, is_one_of, Called}
-use Rattle.bpaf_laws.specs.{Product.ProductOutcome, Product.BothOutcome, Reading.Outcome}
 use Rattle.bpaf_laws.specs.Command.{inside}
+use Rattle.bpaf_laws.specs.{Product.ProductOutcome, Product.BothOutcome, Reading.Outcome}
 use Rattle.bpaf_exact.proofs.Product.{no_own_in_cut, count_none, both_keeps, con_keeps}
 use Rattle.bpaf_exact.proofs.Cuts.{value_foreign, nil_foreign, begin_at, nil_rest, one_take}
 use Rattle.bpaf_exact.proofs.Places.{open_present, closed_item, same_item, TakenOne, match_of}
@@ -33,6 +33,7 @@ use Rattle.bpaf_exact.specs.ProgramForm.{ProgramTook, opens_later, AllSpelled, C
 use Rattle.bpaf_exact.specs.ProgramForm.{ProgramLaw, empty_cell, is_spelled, opens_here, FieldThen}
 use Rattle.bpaf_exact.specs.ProgramForm.{command_value, CommandValue, spelled_cell, CommandsLaw}
 use Rattle.bpaf_exact.specs.ProgramForm.{OpensNone, are_plain, is_dashed}
+use Rattle.bpaf_laws.specs.Choice.{depth}
 
 -- A command's word on cells.
 
@@ -86,7 +87,7 @@ plain_word words plain word dashed = false_from_ne_true (list_any (λ own. bytes
     true≢false (sym (rw ((bytes_eq-Decides word own).0 same) t) ∙ ap not dashed)) words plain)
 
 -- a key is none of a list of plain words
-no_key : (words : List (List ℕ)) → are_plain words ≡ true → (k : Arg) → is_spelled k ≡ true
+pub no_key : (words : List (List ℕ)) → are_plain words ≡ true → (k : Arg) → is_spelled k ≡ true
     → is_one_of words k ≡ true → is_key k ≡ false
 no_key words plain (Short c attached word) s h =
     absurd (true≢false (sym h ∙ plain_word words plain word s))
@@ -233,21 +234,28 @@ module _ {env : Variables} {T : Type 0} {inner : Outcome T} {r : Roles} {value :
   command_refuses s t e w (command_missing none c) u h = absurd (opens_none s none h.0 h.1)
   command_refuses s t e w (command_memory c) u h = c
 
-  -- where no word is the first thing present there is no value
-  none_took : (s t : Situation) (v : T) → IsWholeIn env s → CommandEval T inner called s (Ok v) t
-      → OpensNone own_words (cells s) → ⊥
-  none_took s t v w (command_value {p} at i e) n = n _ (opens_cells called s p at)
+  -- an answer has a longer path
+  one_deeper : (s t : Situation) (v : T) → IsWholeIn env s → CommandEval T inner called s (Ok v) t
+      → depth s < depth t
+  one_deeper s t v w (command_value {p} at i e) =
+      let a = l.keeps.ok (inside called s p) t v (whole_behind called s p at w) i in
+      let b = length_push s.path called.name in let d = a.deep in omega arith
+
+  -- an answer took a word, and leaves nothing
+  one_took : (s t : Situation) (v : T) → CommandEval T inner called s (Ok v) t
+      → (OpensNone own_words (cells s) → ⊥) × (open_count t ≡ 0)
+  one_took s t v (command_value {p} at i e) = (λ n. n _ (opens_cells called s p at), e)
 
   -- where no word is the first thing present it is missing
-  none_refuses : (s t : Situation) (e : Error) → IsWholeIn env s
-      → CommandEval T inner called s (Err e) t → OpensNone own_words (cells s)
-      → FindsNoCommand s (class e) t
+  none_refuses : (s t : Situation) (e : Error) → CommandEval T inner called s (Err e) t
+      → OpensNone own_words (cells s) → FindsNoCommand s (class e) t
   unfolding cells
-  none_refuses s t e w (command_leftover {p} at i left) n = absurd (n _ (opens_cells called s p at))
-  none_refuses s t e w (command_refused {p} at i spared) n =
-      absurd (n _ (opens_cells called s p at))
-  none_refuses s t e w (command_missing none c) n = inr (c, refl, refl)
-  none_refuses s t e w (command_memory c) n = inl c
+  none_refuses s t e (command_leftover {p} at i left) n = absurd (n _ (opens_cells called s p at))
+  none_refuses s t e (command_refused {p} at i spared) n = absurd (n _ (opens_cells called s p at))
+  none_refuses s t e (command_missing none c) n =
+      let same = λ (q : ℕ) (h : is_taken s q ≡ true). h in
+      inr (c, refl, record { context = refl; start = refl; end = refl; path = refl; keeps = same })
+  none_refuses s t e (command_memory c) n = inl c
 
   -- the laws
   pub command_law : CommandsLaw env T (CommandEval T inner called) r own_words opened_value
@@ -258,7 +266,10 @@ module _ {env : Variables} {T : Type 0} {inner : Outcome T} {r : Roles} {value :
       keeps = record { ok = command_took; err = command_refuses };
     };
     opened = λ cs v h. (h.0, h.1);
-    none = record { ok = none_took; err = none_refuses };
+    plain = plain;
+    deeper = one_deeper;
+    took = one_took;
+    none = none_refuses;
   }
 
 -- A flat record is a program.

@@ -218,11 +218,6 @@ pub record TakesAny (q : Roles) (cs ds : Cells) : Type 0 where
   pub one : TakesPiece q cs piece middle
   pub more : TakesPieces q middle ds
 
--- the pieces can all be read; of a positional field those after the first need not be
-abbrev pub Readable : {T : Type 0} → FieldKind → Groups T → List LinePiece → Type 0
-Readable {T = T} ByName group os = (vs : List T) × Own T group os vs
-Readable k group os = Unit {0}
-
 -- whether there is a value for no piece at all, and which it may be
 pub record Gap (T : Type 0) : Type 1 where
   pub has : Bool
@@ -233,46 +228,28 @@ abbrev pub gap_of : {X T : Type 0} → (X → T → Type 0) → Option X → Gap
 gap_of means kept = record { has = is_some kept; absent = IsSomeRelated means kept }
 
 -- a value read off the front of the own pieces, of which at least one was taken
-pub record TookGroup (T : Type 0) (k : FieldKind) (q : Roles) (group : Groups T) (s : Situation)
-    (v : T) (t : Situation) : Type 0 where
+pub record TookGroup (T : Type 0) (q : Roles) (group : Groups T) (s : Situation) (v : T)
+    (t : Situation) : Type 0 where
   pub steady : Steady s t
   pub takes : TakesAny q (cells s) (cells t)
-  pub found : front k (pieces q (cells s)) ≡ [] → ⊥
-  -- it is the value of the first group, if the pieces that are left can be read at all
-  pub read : Readable k group (pieces q (cells t))
-      → group (pieces q (cells s)) v (pieces q (cells t))
-  -- a first group that can be read at all is the one that was taken
-  pub readable : (w : T) (rest : List LinePiece) → group (pieces q (cells s)) w rest
-      → group (pieces q (cells s)) v rest × (pieces q (cells t) ≡ rest)
-
--- a value of one evaluation
-pub data SingleOk (T : Type 0) (k : FieldKind) (q : Roles) (group : Groups T) (gap : Gap T)
-    (s : Situation) (v : T) (t : Situation) : Type 0 where
-  -- no piece: the absent value, and nothing is taken
-  gave_absent : gap.has ≡ true → front k (pieces q (cells s)) ≡ [] → gap.absent v
-      → cells t ≡ cells s → Steady s t → SingleOk T k q group gap s v t
-  -- the value of the first group
-  took : TookGroup T k q group s v t → SingleOk T k q group gap s v t
+  pub read : group (pieces q (cells s)) v (pieces q (cells t))
 
 -- refusals of the class can be caught, for a missing item or otherwise
 pub data CanCatch (c : ErrorClass) : Type 0 where
   catch_missing : c ≡ OfMissing → CanCatch c
   catch_other : c ≡ Caught → CanCatch c
 
--- a refusal of one evaluation
-pub data SingleErr (T : Type 0) (k : FieldKind) (q : Roles) (group : Groups T) (gap : Gap T)
-    (s : Situation) (c : ErrorClass) (t : Situation) : Type 0 where
-  of_memory : c ≡ OfMemory → SingleErr T k q group gap s c t
-  -- no piece, and no value for that; where it says that an item is missing, nothing was taken
-  of_missing : CanCatch c → gap.has ≡ false → front k (pieces q (cells s)) ≡ []
-      → (c ≡ OfMissing → cells t ≡ cells s) → SingleErr T k q group gap s c t
-  -- no piece, and the absent value is refused
-  of_absent : c ≡ Refused → gap.has ≡ true → front k (pieces q (cells s)) ≡ []
-      → ((v : T) → gap.absent v → ⊥) → SingleErr T k q group gap s c t
-  -- a piece that can't be read
-  of_piece : c ≡ Refused → (front k (pieces q (cells s)) ≡ [] → ⊥)
+-- a refusal of one evaluation of a positional field
+pub data SingleErr (T : Type 0) (stops : Bool) (q : Roles) (group : Groups T) (s : Situation)
+    (c : ErrorClass) (t : Situation) : Type 0 where
+  of_memory : c ≡ OfMemory → SingleErr T stops q group s c t
+  -- no word; where it says that an item is missing, nothing was taken
+  of_missing : CanCatch c → front (OneWord stops) (pieces q (cells s)) ≡ []
+      → (c ≡ OfMissing → cells t ≡ cells s) → SingleErr T stops q group s c t
+  -- a word that can't be read
+  of_piece : c ≡ Refused → (front (OneWord stops) (pieces q (cells s)) ≡ [] → ⊥)
       → ((w : T) (rest : List LinePiece) → group (pieces q (cells s)) w rest → ⊥)
-      → SingleErr T k q group gap s c t
+      → SingleErr T stops q group s c t
 
 -- a positional field without a repeat reads its first word alone, none behind what it stops at;
 -- of all that a repeat of it takes it reads the first too
@@ -288,20 +265,19 @@ pub record WordByWord (T : Type 0) (stops : Bool) (group : Groups T) : Type 0 wh
       → group (front (EachWord stops) os) v rest
       → (more : List LinePiece) × group os v more × (rest ≡ front (EachWord stops) more)
 
--- how a field of a kind reads words
-abbrev pub ReadsWords : {T : Type 0} → FieldKind → Groups T → Type 0
-ReadsWords ByName group = Unit {0}
-ReadsWords {T = T} (OneWord stops) group = WordByWord T stops group
-ReadsWords (EachWord stops) group = ⊥
-
--- the laws of a field without a repeat or default
-pub record SingleLaw (variables : Variables) (T : Type 0) (outcome : Outcome T) (k : FieldKind)
-    (q : Roles) (group : Groups T) (gap : Gap T) : Type 0 where
-  pub own : OwnItems k q
-  pub words : ReadsWords k group
+-- how one evaluation reads: no piece is no group, and without a value for no piece none is one
+pub record IsGroup (T : Type 0) (group : Groups T) (gap : Gap T) : Type 0 where
   pub starts : (v : T) (rest : List LinePiece) → group [] v rest → ⊥
   pub no_absent : (v : T) → gap.has ≡ false → gap.absent v → ⊥
-  pub keeps : KeepsTo variables T outcome (SingleOk T k q group gap) (SingleErr T k q group gap)
+
+-- the laws of a positional field without a repeat or default, which stands for no absent value
+pub record SingleLaw (variables : Variables) (T : Type 0) (outcome : Outcome T) (stops : Bool)
+    (q : Roles) (group : Groups T) (gap : Gap T) : Type 0 where
+  pub own : IsWords q
+  pub words : WordByWord T stops group
+  pub is : IsGroup T group gap
+  pub none : gap.has ≡ false
+  pub keeps : KeepsTo variables T outcome (TookGroup T q group) (SingleErr T stops q group)
 
 -- The own list under a repeat, which asks once more: an absent value is there also if unused.
 pub data OwnList (T : Type 0) (group : Groups T) (gap : Gap T) : List LinePiece → List T
@@ -315,6 +291,12 @@ pub data OwnList (T : Type 0) (group : Groups T) (gap : Gap T) : List LinePiece 
 -- the value of a field without a repeat or default: that of all pieces, or of none the absent one
 abbrev pub SingleValue : (T : Type 0) → Groups T → Gap T → List LinePiece → T → Type 0
 SingleValue T group gap os v = group os v [] ⊎ ((os ≡ []) × gap.absent v)
+
+-- the laws of a key, of a choice of keys, and of closures round such
+pub record KeyLaw (variables : Variables) (T : Type 0) (outcome : Outcome T) (q : Roles)
+    (group : Groups T) (gap : Gap T) : Type 0 where
+  pub is : IsGroup T group gap
+  pub field : FieldLaw variables T outcome ByName q (SingleValue T group gap)
 
 -- with a repeat a positional field gets all words
 abbrev pub repeated : FieldKind → FieldKind
@@ -458,42 +440,6 @@ pub data TakesFirst (q : Roles) : Cells → LinePiece → Cells → Type 0 where
       → TakesFirst q (Some k ∷ (Some w ∷ cs)) (Two k w) (None ∷ (None ∷ cs))
   first_later : {c : Option Arg} {cs ds : Cells} {o : LinePiece} → NotOwn q c → TakesFirst q cs o ds
       → TakesFirst q (c ∷ cs) o (c ∷ ds)
-
--- a piece without a value is among them
-pub data HasBad (T : Type 0) (value : LinePiece → T → Type 0) : List LinePiece → Type 0 where
-  bad_here : {o : LinePiece} {os : List LinePiece} → ((v : T) → value o v → ⊥)
-      → HasBad T value (o ∷ os)
-  bad_later : {o : LinePiece} {os : List LinePiece} → HasBad T value os → HasBad T value (o ∷ os)
-
--- the first piece can't be read
-abbrev pub FirstUnread : (T : Type 0) → Roles → (LinePiece → T → Type 0) → Cells → Type 0
-FirstUnread T q value cs =
-    (o : LinePiece) × (os : List LinePiece) × (pieces q cs ≡ o ∷ os) × ((w : T) → value o w → ⊥)
-
--- an answer of an alternative: it took one own piece that has the value
-pub record AlternativeOk (T : Type 0) (q : Roles) (value : LinePiece → T → Type 0) (s : Situation)
-    (v : T) (t : Situation) : Type 0 where
-  pub steady : Steady s t
-  pub piece : LinePiece
-  pub takes : TakesPiece q (cells s) piece (cells t)
-  pub means : value piece v
-  -- it is the first piece, or that can't be read
-  pub first : TakesFirst q (cells s) piece (cells t) ⊎ FirstUnread T q value (cells s)
-
--- a refusal of an alternative
-pub data AlternativeErr (T : Type 0) (q : Roles) (value : LinePiece → T → Type 0) (s : Situation)
-    (c : ErrorClass) (t : Situation) : Type 0 where
-  alternative_memory : c ≡ OfMemory → AlternativeErr T q value s c t
-  alternative_missing : c ≡ OfMissing → pieces q (cells s) ≡ [] → cells t ≡ cells s
-      → Steady s t → AlternativeErr T q value s c t
-  alternative_refused : c ≡ Refused → t.path ≡ s.path → FirstUnread T q value (cells s)
-      → AlternativeErr T q value s c t
-
--- the laws of a required flag or argument, or of a choice of them
-pub record AlternativeLaw (variables : Variables) (T : Type 0) (outcome : Outcome T) (q : Roles)
-    (value : LinePiece → T → Type 0) : Type 0 where
-  pub named : IsNamed q
-  pub keeps : KeepsTo variables T outcome (AlternativeOk T q value) (AlternativeErr T q value)
 
 -- a piece has the value that the alternative gives that it belongs to
 abbrev pub either_value : {T : Type 0} → Roles → (LinePiece → T → Type 0) → (LinePiece → T → Type 0)

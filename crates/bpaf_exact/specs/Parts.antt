@@ -106,6 +106,7 @@ pub data GroupFirst {A B : Type 0} (a : Part A) (b : Part B) (cs : Cells) (v : A
   left_first : {ds : Cells} → a.first cs v.0 ds → Turn b ds v.1 es → GroupFirst a b cs v es
   right_first : NoOwn a cs → a.absent v.0 → b.first cs v.1 es → GroupFirst a b cs v es
 
+-- two parts together
 abbrev pub part_group : {A B : Type 0} → Part A → Part B → Part (A × B)
 part_group {A = A} a b = record {
   roles = either a.roles b.roles;
@@ -164,6 +165,7 @@ pub data RepeatAbsent {T : Type 0} (part : Part T) (vs : List T) : Type 0 where
   no_value : part.missing → vs ≡ [] → RepeatAbsent part vs
   one_value : {v : T} → part.absent v → vs ≡ v ∷ [] → RepeatAbsent part vs
 
+-- the list of all entries
 abbrev pub part_repeat : {T : Type 0} → Part T → Part (List T)
 part_repeat part = record {
   roles = part.roles;
@@ -197,6 +199,7 @@ pub record KeyFirst {T : Type 0} (q : Roles) (value : LinePiece → T → Type 0
   pub takes : TakesFirst q cs piece ds
   pub means : value piece v
 
+-- the part of a key
 abbrev pub key_part : {T : Type 0} → Roles → (LinePiece → T → Type 0) → Gap T → Part T
 key_part q value gap = record {
   roles = q;
@@ -220,6 +223,7 @@ pub data ChoiceAbsent {T : Type 0} (a b : Part T) (v : T) : Type 0 where
   absent_first : a.absent v → ChoiceAbsent a b v
   absent_second : ((x : T) → a.absent x → ⊥) → b.absent v → ChoiceAbsent a b v
 
+-- one of two parts
 abbrev pub part_choice : {T : Type 0} → Part T → Part T → Part T
 part_choice a b = record {
   roles = either a.roles b.roles;
@@ -235,6 +239,15 @@ kept_part given = record {
   first = λ cs v ds. ⊥;
   absent = given;
   missing = ⊥;
+}
+
+-- what is never there
+abbrev pub never_part : {T : Type 0} → Part T
+never_part = record {
+  roles = no_roles;
+  first = λ cs v ds. ⊥;
+  absent = λ v. ⊥;
+  missing = Unit {0};
 }
 
 -- the list of a repeat that has a value at least

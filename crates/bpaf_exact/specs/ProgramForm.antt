@@ -16,14 +16,18 @@ use Rattle.bpaf_laws.specs.{Reading.first_set, Reading.Outcome, Leaves.value_wit
 use Rattle.bpaf_laws.specs.{Combinators.is_nil, Command.inside, Choice.depth}
 use Rattle.bpaf_exact.specs.Pieces.{are_all_apart, stands_behind, is_own_role, LinePiece, no_roles}
 use Rattle.bpaf_exact.specs.Pieces.{others, Cells, Roles, Apart, Takes, Alone, Owns, Cut, One, Two}
-use Rattle.bpaf_exact.specs.Flat.{AlternativeLaw, FieldsReading, OptionalValue, either_value, class}
+use Rattle.bpaf_exact.specs.Flat.{KeyLaw, FieldsReading, OptionalValue, either_value, class}
 use Rattle.bpaf_exact.specs.Flat.{ErrorClass, closed_gap, OfMissing, Variables, FieldKind, OfMemory}
 use Rattle.bpaf_exact.specs.Flat.{FieldsLaw, SingleLaw, FieldLaw, AgreesOn, KeepsTo, ReadOff, cells}
 use Rattle.bpaf_exact.specs.Flat.{portion, FrontOf, Closure, OneWord, Refused, ByName, Groups, left}
 use Rattle.bpaf_exact.specs.Flat.{both_reading, NonePresent, first_cells, SingleValue, ClosedValue}
-use Rattle.bpaf_exact.specs.Flat.{gap_of, Caught, keys, Gap}
+use Rattle.bpaf_exact.specs.Flat.{gap_of, Caught, EachWord, keys, Gap}
+use Rattle.bpaf_exact.specs.Flat.{gap_of, Caught, keys, Gap, FallbackValue, LastOf, OwnList}
+use Rattle.bpaf_exact.specs.{Flat.repeated, Flat.IsWholeIn, Flat.Steady}
+use Rattle.std.specs.Prelude.{◌<◌}
 use Rattle.bpaf_exact.specs.Parts.{Part, PartAlone, PartForm, PartFormAgrees, PartLaw, PartThen}
-use Rattle.bpaf_exact.specs.Parts.{key_part, last_key_part, some_part}
+use Rattle.bpaf_exact.specs.Parts.{key_part, last_key_part, some_part, no_part, never_part}
+use Rattle.bpaf_exact.specs.Parts.{part_choice}
 use Rattle.bpaf_exact.specs.Pieces.{WithNext, roles_of, is_value, IsNamed, pieces, either}
 
 -- which values some cells have
@@ -85,6 +89,22 @@ abbrev pub OptionalCommands : (T : Type 0) → CellsValue T → CellsValue (Opti
 OptionalCommands T inner cs (Some v) = inner cs v
 OptionalCommands T inner cs None = NonePresent cs
 
+-- commands with a default: they have the value; or nothing is present at all, and it is given
+abbrev pub DefaultCommands : (T : Type 0) → (T → Type 0) → CellsValue T → CellsValue T
+DefaultCommands T given inner cs v = inner cs v ⊎ (NonePresent cs × given v)
+
+-- a repeat of commands, which leave nothing: their one value; or none, where nothing is present
+abbrev pub RepeatCommands : (T : Type 0) → CellsValue T → CellsValue (List T)
+RepeatCommands T inner cs [] = NonePresent cs
+RepeatCommands T inner cs (v ∷ []) = inner cs v
+RepeatCommands T inner cs _ = ⊥
+
+-- a named part or commands: theirs, or where none of their words opens anything the part's alone
+pub data PartOrCommands {T : Type 0} (p : Part T) (words : List (List ℕ)) (value : CellsValue T)
+    (cs : Cells) (v : T) : Type 0 where
+  of_commands : value cs v → PartOrCommands p words value cs v
+  of_part : OpensNone words cs → PartAlone p cs v → PartOrCommands p words value cs v
+
 -- a named field before others, the last of which are commands: it has its value on its own pieces,
 -- and they have theirs on what is left without these
 pub record FieldThen (A B : Type 0) (q : Roles) (first : List LinePiece → A → Type 0)
@@ -122,16 +142,42 @@ pub record ProgramLaw (variables : Variables) (V : Type 0) (outcome : Outcome V)
 -- such a refusal says that the word is missing, and nothing is taken; or that memory is wanted
 abbrev pub FindsNoCommand : Situation → ErrorClass → Situation → Type 0
 FindsNoCommand s c t =
-    (c ≡ OfMemory) ⊎ ((c ≡ OfMissing) × (cells t ≡ cells s) × (t.path ≡ s.path))
+    (c ≡ OfMemory) ⊎ ((c ≡ OfMissing) × (cells t ≡ cells s) × Steady s t)
 
 -- The laws of a command, or a choice of them, with its words: what has a value is opened by one of
--- them; where none is the first thing present it is missing.
+-- them, an answer has a longer path and leaves nothing; where none is the first thing present it is
+-- missing.
 pub record CommandsLaw (variables : Variables) (T : Type 0) (outcome : Outcome T) (r : Roles)
     (words : List (List ℕ)) (value : CellsValue T) : Type 0 where
   pub program : ProgramLaw variables T outcome r value
   pub opened : (cs : Cells) (v : T) → value cs v → (ds : Cells) × Opens words cs ds
-  pub none : KeepsTo variables T outcome (λ s v t. OpensNone words (cells s) → ⊥)
-      (λ s c t. OpensNone words (cells s) → FindsNoCommand s c t)
+  pub plain : are_plain words ≡ true
+  pub deeper : (s t : Situation) (v : T) → IsWholeIn variables s → outcome s (Ok v) t
+      → depth s < depth t
+  pub took : (s t : Situation) (v : T) → outcome s (Ok v) t
+      → (OpensNone words (cells s) → ⊥) × (open_count t ≡ 0)
+  pub none : (s t : Situation) (e : Error) → outcome s (Err e) t → OpensNone words (cells s)
+      → FindsNoCommand s (class e) t
+
+-- an answer of a choice of named parts and commands
+pub record LastTook {T : Type 0} (p : Part T) (words : List (List ℕ)) (value : CellsValue T)
+    (s : Situation) (v : T) (t : Situation) : Type 0 where
+  pub deep : depth s ≤ depth t
+  pub read : IsSpelledLine s.context → NonePresent (cells t)
+      → PartOrCommands p words value (cells s) v
+  pub all : (w : T) → value (cells s) w
+      → value (cells s) v × NonePresent (cells t) × (depth s < depth t)
+
+-- The laws of a choice of named parts and commands: where none of the words of these opens anything
+-- it is a part; and where the commands have a value the answer is one, with a longer path.
+pub record LastLaw (variables : Variables) (T : Type 0) (outcome : Outcome T) (r : Roles)
+    (words : List (List ℕ)) (p : Part T) (value : CellsValue T) : Type 0 where
+  pub part : PartLaw variables T (λ s a t. outcome s a t × OpensNone words (cells s)) p
+  pub plain : are_plain words ≡ true
+  pub opened : (cs : Cells) (v : T) → value cs v → (ds : Cells) × Opens words cs ds
+  pub others : LeavesToOthers r value
+  pub keeps : KeepsTo variables T outcome (LastTook p words value)
+      (λ s c t. (w : T) → value (cells s) w → c ≡ OfMemory)
 
 -- What runs behind a command's word: a value only where nothing is left present.
 pub data CommandEval (T : Type 0) (inner : Outcome T) (called : Called) (s : Situation)
@@ -227,12 +273,14 @@ pub data ProgramForm (T : Type 0) : Type 1 where
   complete : (wide : Bool) → FieldKind → Roles → (List LinePiece → T → Type 0) → ProgramForm T
   -- a product of fields, by whether all are named: a record; and where they are, a field of another
   product : (wide named : Bool) → Roles → FieldsReading T → ProgramForm T
-  -- a command or a choice of them, by whether they may be left out
+  -- a command or a choice of them, or what is made of such by a repeat or default
   commands : (optional : Bool) → CellsValue T → ProgramForm T
   -- a product of named fields, and then commands
   before_commands : CellsValue T → ProgramForm T
   -- a named part
   part : Part T → ProgramForm T
+  -- a choice of named parts and commands: the part, and the words and values of the commands
+  last_choice : Part T → List (List ℕ) → CellsValue T → ProgramForm T
   -- named parts, and then words or commands
   after_parts : CellsValue T → ProgramForm T
 
@@ -256,14 +304,27 @@ pub record OpenedLaw (variables : Variables) (T : Type 0) (outcome : Outcome T)
   pub commands : CommandsLaw variables T outcome roles words value
   pub owns : Owns roles names
 
+-- choices of named parts and commands keep to the laws of such; their words are among these
+pub record ChosenLaw {T : Type 0} (variables : Variables) (outcome : Outcome T)
+    (names : List Names) (words : List (List ℕ)) (p : Part T) (own : List (List ℕ))
+    (value : CellsValue T) : Type 0 where
+  pub roles : Roles
+  pub law : LastLaw variables T outcome roles own p value
+  pub owns : Owns roles names
+  pub part_owns : Owns p.roles names
+  pub among : (k : Arg) → is_one_of own k ≡ true → is_one_of words k ≡ true
+
 -- the laws of each where the environment has these variables, with these keys and words of commands
 abbrev pub LawOf : {T : Type 0} → Variables → Outcome T → List Names → List (List ℕ)
     → ProgramForm T → Type 0
 LawOf variables outcome names words no_program = Unit {0}
 LawOf {T = T} variables outcome names words (alternative wide q value) =
-    AlternativeLaw variables T outcome q value × Owns q names
-LawOf {T = T} variables outcome names words (single wide k q group gap) =
-    SingleLaw variables T outcome k q group gap × Owns (keys k q) names
+    KeyLaw variables T outcome q (FrontOf T value) (gap_of value None) × Owns q names
+LawOf {T = T} variables outcome names words (single wide ByName q group gap) =
+    KeyLaw variables T outcome q group gap × Owns q names
+LawOf {T = T} variables outcome names words (single wide (OneWord stops) q group gap) =
+    SingleLaw variables T outcome stops q group gap × Owns no_roles names
+LawOf variables outcome names words (single wide (EachWord stops) q group gap) = ⊥
 LawOf {T = T} variables outcome names words (complete wide k q value) =
     FieldLaw variables T outcome k q value × Owns (keys k q) names
 LawOf {T = T} variables outcome names words (product wide named q fields) =
@@ -277,6 +338,8 @@ LawOf {T = T} variables outcome names words (before_commands value) =
     EndLaw variables T outcome names value
 LawOf {T = T} variables outcome names words (part p) =
     PartLaw variables T outcome p × Owns p.roles names
+LawOf variables outcome names words (last_choice p own value) =
+    ChosenLaw variables outcome names words p own value
 LawOf {T = T} variables outcome names words (after_parts value) =
     EndLaw variables T outcome names value
 
@@ -293,6 +356,7 @@ Agrees f (single wide k q group gap) =
 Agrees f (complete wide k q value) = (os : List LinePiece) → AgreesOn (value os) f
 Agrees f (commands optional value) = (cs : Cells) → AgreesOn (value cs) f
 Agrees f (before_commands value) = (cs : Cells) → AgreesOn (value cs) f
+Agrees f (last_choice p own value) = (cs : Cells) → AgreesOn (PartOrCommands p own value cs) f
 Agrees f (after_parts value) = (cs : Cells) → AgreesOn (value cs) f
 Agrees f _ = Unit {0}
 
@@ -316,6 +380,8 @@ program_closed f (single wide k q group gap) =
 program_closed f (complete wide k q value) = complete wide k q (ClosedValue value f)
 program_closed f (commands optional value) = commands optional (ClosedValue value f)
 program_closed f (before_commands value) = before_commands (ClosedValue value f)
+program_closed f (last_choice p own value) =
+    after_parts (ClosedValue (PartOrCommands p own value) f)
 program_closed f (after_parts value) = after_parts (ClosedValue value f)
 program_closed f _ = no_program
 
@@ -324,18 +390,34 @@ abbrev pub program_dressed : {T : Type 0} → ProgramForm T → ProgramForm T
 program_dressed (product wide named q fields) = product true named q fields
 program_dressed s = s
 
--- what a repeat or default makes of a field without one: a field of a kind, with such values
+-- what a repeat or default makes of a field without one: a field of a kind, with such values; or
+-- such commands
 abbrev pub completed : {T B : Type 0} → (FieldKind → FieldKind)
-    → (Groups T → Gap T → List LinePiece → B → Type 0) → ProgramForm T → ProgramForm B
-completed {T = T} kind value (alternative wide q each) =
+    → (Groups T → Gap T → List LinePiece → B → Type 0) → (CellsValue T → CellsValue B)
+    → ProgramForm T → ProgramForm B
+completed {T = T} kind value round (alternative wide q each) =
     complete wide (kind ByName) q (value (FrontOf T each) (gap_of each None))
-completed kind value (single wide k q group gap) = complete wide (kind k) q (value group gap)
-completed kind value _ = no_program
+completed kind value round (single wide k q group gap) =
+    complete wide (kind k) q (value group gap)
+completed kind value round (commands false inner) = commands true (round inner)
+completed kind value round _ = no_program
 
 -- what may be left out
 abbrev pub program_optional : {T : Type 0} → ProgramForm T → ProgramForm (Option T)
-program_optional {T = T} (commands false value) = commands true (OptionalCommands T value)
-program_optional {T = T} s = completed (λ k. k) (OptionalValue T) s
+program_optional {T = T} s = completed (λ k. k) (OptionalValue T) (OptionalCommands T) s
+
+-- what has a default
+abbrev pub program_default : {T : Type 0} → Closure (Unit {0}) T → ProgramForm T → ProgramForm T
+program_default {T = T} f s = completed (λ k. k) (λ group gap. FallbackValue T group gap f)
+    (DefaultCommands T (f.yes tt)) s
+
+-- the list of a repeat
+abbrev pub program_repeat : {T : Type 0} → ProgramForm T → ProgramForm (List T)
+program_repeat {T = T} s = completed repeated (OwnList T) (RepeatCommands T) s
+
+-- its last value
+abbrev pub program_last : {T : Type 0} → ProgramForm T → ProgramForm T
+program_last {T = T} s = completed repeated (LastOf T) (λ value. value) s
 
 -- no word is among others
 abbrev pub are_words_apart : List (List ℕ) → List (List ℕ) → Bool
@@ -352,6 +434,37 @@ program_choice {T = T} own others words more (commands false a) (commands false 
     program_if (are_words_apart words more) (commands false (ChoiceValue T a b))
 program_choice own others words more _ _ = no_program
 
+-- a command or a choice of commands
+abbrev pub is_commands : {T : Type 0} → ProgramForm T → Bool
+is_commands (commands false value) = true
+is_commands _ = false
+
+-- commands with these words or a named part, as a choice of such
+abbrev pub as_last : {T : Type 0} → List (List ℕ) → PartForm T → ProgramForm T → ProgramForm T
+as_last words p (commands false value) = last_choice never_part words value
+as_last words p (last_choice q own value) = last_choice q own value
+as_last words (some_part p) s = last_choice p [] (λ cs v. ⊥)
+as_last words no_part s = no_program
+
+-- of two such
+abbrev pub both_last : {T : Type 0} → ProgramForm T → ProgramForm T → ProgramForm T
+both_last {T = T} (last_choice p own a) (last_choice q others b) =
+    last_choice (part_choice p q) (own ++ others) (ChoiceValue T a b)
+both_last _ _ = no_program
+
+-- where a form is no program, another
+abbrev pub or_form : {T : Type 0} → ProgramForm T → ProgramForm T → ProgramForm T
+or_form no_program t = t
+or_form s t = s
+
+-- a choice of two, which may be named parts; of commands the keys need not be apart from others
+abbrev pub program_either : {T : Type 0} → List Names → List Names → List (List ℕ)
+    → List (List ℕ) → PartForm T → PartForm T → ProgramForm T → ProgramForm T → ProgramForm T
+program_either own others words more p r s t =
+    or_form (program_choice own others words more s t) (program_if (are_words_apart words more
+    && (are_all_apart own others || (is_commands s || is_commands t)))
+    (both_last (as_last words p s) (as_last more r t)))
+
 -- what may stand in a choice
 abbrev pub choice_only : {T : Type 0} → ProgramForm T → ProgramForm T
 choice_only (alternative wide q value) = alternative wide q value
@@ -367,8 +480,9 @@ program_field (product wide false q fields) = product true false q fields
 program_field (commands optional value) = commands optional value
 program_field (before_commands value) = before_commands value
 program_field (part p) = part p
+program_field (last_choice p own value) = after_parts (PartOrCommands p own value)
 program_field (after_parts value) = after_parts value
-program_field {T = T} s = completed (λ k. k) (SingleValue T) s
+program_field {T = T} s = completed (λ k. k) (SingleValue T) (λ value. value) s
 
 -- keys may stand after a field: those that are apart from its own; after a positional field none
 abbrev pub may_follow : FieldKind → List Names → List Names → Bool
@@ -413,6 +527,7 @@ has_part _ = false
 -- where the flat form isn't a program, a named part if it is one
 abbrev pub or_part : {T : Type 0} → ProgramForm T → PartForm T → ProgramForm T
 or_part no_program (some_part p) = part p
+or_part (last_choice q own value) (some_part p) = part p
 or_part (after_parts value) (some_part p) = part p
 or_part s _ = s
 

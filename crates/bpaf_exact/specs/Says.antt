@@ -9,7 +9,8 @@ use Rattle.bpaf_exact.specs.Flat.{FieldKind, repeated, IsLastOf, Closure, ByName
 use Rattle.bpaf_exact.specs.Flat.{back, Own}
 use Rattle.bpaf_exact.specs.ProgramForm.{before_commands, ProgramForm, alternative, no_program}
 use Rattle.bpaf_exact.specs.ProgramForm.{CellsValue, FieldThen, complete, commands, product, single}
-use Rattle.bpaf_exact.specs.ProgramForm.{part, after_parts, product_roles}
+use Rattle.bpaf_exact.specs.ProgramForm.{part, after_parts, product_roles, last_choice}
+use Rattle.bpaf_exact.specs.ProgramForm.{PartOrCommands}
 use Rattle.bpaf_exact.specs.Parts.{Part, PartForm, PartAlone, Turn, some_part, no_part}
 
 -- The pieces of a field's own.
@@ -192,12 +193,6 @@ scope_told (part p) in_cells said cells = PartAlone p
 scope_told (after_parts value) in_cells said cells = value
 scope_told s in_cells said cells = scope_said in_cells (product_roles s) said cells
 
--- whether that is said of cells
-abbrev pub told_in_cells : {T : Type 0} → ProgramForm T → (in_cells : Bool) → Bool
-told_in_cells (part p) in_cells = true
-told_in_cells (after_parts value) in_cells = true
-told_in_cells s in_cells = in_cells
-
 -- a named field before others: it says so of its own pieces, and they do of what is left
 pub record FieldThenSays {A B : Type 0} (names : List Names) (said : Said A) (rest : CellsValue B)
     (cs : Cells) (v : A × B) : Type 0 where
@@ -245,6 +240,7 @@ FormSays names (commands optional value) kind in_cells said cells =
 FormSays names (before_commands value) kind in_cells said cells =
     (in_cells ≡ true) × IsSaid value cells
 FormSays names (part p) kind in_cells said cells = Unit {0}
+FormSays names (last_choice p own value) kind in_cells said cells = Unit {0}
 FormSays names (after_parts value) kind in_cells said cells = Unit {0}
 
 -- a value of such a parser does
@@ -295,6 +291,9 @@ HasOneView see (product wide named q fields) = (os : List LinePiece) → Alike s
 HasOneView see (commands optional value) = (cs : Cells) → Alike see (value cs)
 HasOneView see (before_commands value) = (cs : Cells) → Alike see (value cs)
 HasOneView see (part p) = PartOneView see p
+HasOneView {T = T} see (last_choice p own value) = PartOneView see p
+    × ((cs : Cells) → Alike see (value cs))
+    × ((cs : Cells) → Alike see (PartOrCommands p own value cs))
 HasOneView see (after_parts value) = (cs : Cells) → Alike see (value cs)
 
 -- what may be a part has values that look alike

@@ -11,9 +11,9 @@ use Rattle.std.specs.Result.{IfErr}
 use Rattle.bpaf_grammar.specs.{Words.Answers, Words.Deals, Words.names_of, Laws.lawful_of}
 use Rattle.bpaf_grammar.specs.Grammar.{guarded, keys_of}
 use Rattle.bpaf_record.proofs.LookAlike.{IsSeen, part_seen, view_seen}
-use Rattle.bpaf_record.proofs.FormLaws.{law_of, part_law_of}
+use Rattle.bpaf_record.proofs.FormLaws.{law_of, part_law_of, reads_of}
 use Rattle.bpaf_exact.proofs.PartForms.{map_part_law, narrower_part_form, optional_form_part_law}
-use Rattle.bpaf_exact.proofs.ProgramForm.{or_part_law}
+use Rattle.bpaf_exact.proofs.ProgramForm.{or_part_law, unnamed_law}
 use Rattle.bpaf_record.specs.Program.{agrees_of, part_form, program_form, are_unusual}
 use Rattle.bpaf.specs.Asked.{HandsOn, RunShows, IfShown, Showing}
 use Rattle.bpaf_doc.specs.{declared.doc.Piece.Piece, Shape.Shape, Names.Names}
@@ -24,7 +24,7 @@ use Rattle.bpaf_line.specs.declared.failure.ParseFailure.TheVariants as failure
 use Rattle.bpaf_laws.specs.Combinators.{MapOutcome, EachReads, ListReads, MapReads, OptionalReads}
 use Rattle.bpaf.proofs.Asked.{positional_hands_on, argument_hands_on, optional_hands_on, hands_also}
 use Rattle.bpaf.proofs.Asked.{default_hands_on, product_hands_on, asked_at_also, both_hands_on}
-use Rattle.bpaf_exact.proofs.ProgramForm.{program_choice_law, program_alone_law, program_field_law}
+use Rattle.bpaf_exact.proofs.ProgramForm.{program_either_law, program_alone_law, program_field_law}
 use Rattle.bpaf_exact.proofs.ProgramForm.{program_both_law, program_con_law, narrower_form}
 use Rattle.bpaf_program.specs.KnownParser.{AreKnownFields, known_optional, IsKnownParser, IsAlso}
 use Rattle.bpaf_program.specs.KnownParser.{program_names, known_command, known_default, inner_pages}
@@ -210,7 +210,8 @@ pub choice_known : {T : Type 0} (first second : Grammar T) {one two : Grammar T}
     → IsKnownParser first one → IsKnownParser second two
     → IsKnownParser (choice first second) (choice one two)
 choice_known first second these those = record {
-  law = λ env. or_part_law _ _ (program_choice_law (these.law env) (those.law env))
+  law = λ env. or_part_law _ _ (reads_of (choice first second) env)
+      (program_either_law (these.law env) (those.law env) (these.part env) (those.part env))
       (choice_form_part_law (these.part env) (those.part env));
   part = λ env. choice_form_part_law (these.part env) (those.part env);
   also = choice_also these.also those.also;
@@ -228,7 +229,8 @@ pub map_known : {A B : Type 0} (make : A → B) (known : Grammar A) {one : Gramm
     → IsKnownParser (known_map make known) (closed (mapped answers) one)
 map_known make known {one} inner {answers} only = record {
   law = λ env. narrower_form (map_within (outcome_of one) only)
-      (or_part_law _ _ (map_law (inner.law env) (λ x v. v ≡ make x))
+      (or_part_law _ _ (reads_of (known_map make known) env)
+      (map_law (inner.law env) (λ x v. v ≡ make x))
       (map_part_law (inner.part env) (λ x v. v ≡ make x)));
   part = λ env. narrower_part_form (map_within (outcome_of one) only)
       (map_part_law (inner.part env) (λ x v. v ≡ make x));
@@ -247,7 +249,8 @@ pub guard_known : {T X : Type 0} {see : T → X} (check : X → Bool) {message :
 guard_known {T} {see = see} check {message} {known} {one} seen inner only text_is =
     rw text_is (record {
       law = λ env. narrower_form (guard_within (outcome_of one) message only)
-          (or_part_law _ _ (guard_law (inner.law env) (λ x b. b ≡ check (see x)) message
+          (or_part_law _ _ (reads_of (known_guard see check message known) env)
+          (guard_law (inner.law env) (λ x b. b ≡ check (see x)) message
           (view_agrees apart (program_form known env) (view_seen seen env))) (part_law env));
       part = λ env. narrower_part_form (guard_within (outcome_of one) message only) (part_law env);
       also = made_also inner.also (λ x v made. (made.0, only x true made.1));
@@ -290,8 +293,8 @@ pub both_known : {A B : Type 0} (first : Grammar A) (rest : FieldsGrammar B) {on
     {others : FieldsGrammar B} → IsKnownParser first one → AreKnownFields rest others
     → AreKnownFields (both first rest) (both one others)
 both_known first rest {one} is more = record {
-  law = λ env. or_part_law _ _
-      (program_both_law (program_field_law (is.law env)) (more.law env))
+  law = λ env. or_part_law _ _ (reads_of (both first rest) env)
+      (unnamed_law (program_both_law (program_field_law (is.law env)) (more.law env)))
       (both_part_law (is.part env) (more.part env));
   part = λ env. both_part_law (is.part env) (more.part env);
   also = both_also is.also more.also;
@@ -309,7 +312,8 @@ pub con_known : {A B : Type 0} (make : A → B) (known : FieldsGrammar A) {those
     → IsKnownParser (known_con make known) (product answers those)
 con_known make known {those} fields {answers} only = record {
   law = λ env. narrower_form (con_within (outcome_of those) only)
-      (or_part_law _ _ (program_con_law (λ x v. v ≡ make x) (fields.law env))
+      (or_part_law _ _ (reads_of (known_con make known) env)
+      (unnamed_law (program_con_law (λ x v. v ≡ make x) (fields.law env)))
       (con_part_law (fields.part env) (λ x v. v ≡ make x)));
   part = λ env. narrower_part_form (con_within (outcome_of those) only)
       (con_part_law (fields.part env) (λ x v. v ≡ make x));
@@ -413,7 +417,8 @@ module _ {T : Type 0} {known made : Grammar T} (is : IsKnownParser known made) w
   pub many_known : {catch : Bool} → catch ≡ false
       → IsKnownParser (known_many known) (repeat (many catch) made)
   many_known none = rw none (record {
-    law = λ env. or_part_law _ _ (many_law (is.law env) false) (many_part_law (is.part env) false);
+    law = λ env. or_part_law _ _ (reads_of (known_many known) env) (many_law (is.law env) false)
+        (many_part_law (is.part env) false);
     part = λ env. many_part_law (is.part env) false;
     also = made_also (list_also is.also) (λ values v made. made);
     shows = λ shape shown. (shown.0, is.shows shown.0 shown.1, shown.2);
@@ -425,7 +430,8 @@ module _ {T : Type 0} {known made : Grammar T} (is : IsKnownParser known made) w
   pub optional_known : {catch : Bool} → catch ≡ false
       → IsKnownParser (known_optional known) (optional catch made)
   optional_known none = rw none (record {
-    law = λ env. or_part_law _ _ (optional_law (is.law env) false)
+    law = λ env. or_part_law _ _ (reads_of (known_optional known) env)
+        (optional_law (is.law env) false)
         (optional_form_part_law (is.part env) false);
     part = λ env. optional_form_part_law (is.part env) false;
     also = optional_also is.also;
@@ -441,7 +447,8 @@ module _ {T : Type 0} {known made : Grammar T} (is : IsKnownParser known made) w
   default_known {clones} equal value is_kept unseen = rw (is_kept, unseen) (record {
     law = λ env. narrower_form
         (no_more (λ s t r o. fallback_kept equal (outcome_of made) value s r t o))
-        (or_part_law _ _ (fallback_law (is.law env) IsKept value)
+        (or_part_law _ _ (reads_of (known_default value known) env)
+        (fallback_law (is.law env) IsKept value)
         (fallback_part_law (is.part env) IsKept value));
     part = λ env. narrower_part_form
         (no_more (λ s t r o. fallback_kept equal (outcome_of made) value s r t o))

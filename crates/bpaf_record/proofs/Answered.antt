@@ -42,8 +42,13 @@ use Rattle.bpaf_exact.proofs.{Names.of_front_one, Places.test_named}
 use Rattle.bpaf_exact.specs.ProgramForm.{opens_here, flag_roles, WordValue, Opens, CellsValue}
 use Rattle.bpaf_exact.specs.Says.{says_some, says_none, WordSays, CutSays, keyed, Said, scope_told}
 use Rattle.bpaf_exact.specs.Pieces.{Roles, Cells, Takes, Owns, Cut, One, Two}
-use Rattle.bpaf_exact.specs.Flat.{OneWord, front, back}
-use Rattle.bpaf_record.specs.Record.{IsSpelledItem, TellsOfWords, WasSpelled, WasCalled}
+use Rattle.bpaf_exact.specs.Flat.{OneWord, TakesFirst, back, first_later, first_one, first_two, front}
+use Rattle.bpaf_exact.specs.Flat.{Gap, map_closure}
+use Rattle.bpaf_exact.specs.Parts.{KeyFirst, Part, Turn, absent, key_part, left_first, part_closed}
+use Rattle.bpaf_exact.specs.Parts.{part_group, part_optional, present as here, right_first}
+use Rattle.bpaf_exact.specs.ProgramForm.{ProgramForm}
+use Rattle.bpaf_record.specs.Record.{IsProgramValueOf, IsSpelledItem, TellsOfWords, WasCalled}
+use Rattle.bpaf_record.specs.Record.{WasSpelled}
 use Rattle.bpaf_record.specs.Program.{make_of, scope_by, tells_cells}
 use Rattle.bpaf_record.proofs.Running.{each_present, cut_kept, on_line, present}
 
@@ -569,6 +574,24 @@ owned_on key owns (takes_flag {k = k} {cs = cs} e t) some =
 owned_on key owns (takes_argument {k = k} {w = w} {cs = cs} e v t) some =
     own_first key owns k (present (Some w ∷ cs)) (ap is_own_role e)
 
+-- a first piece taken away
+first_left : {q : Roles} {cs left : Cells} {o : LinePiece} → TakesFirst q cs o left
+    → IsLeft left cs
+first_left (first_one {k = k} e) = gone (Some k) all_left
+first_left (first_two {k = k} {w = w} e v) = gone (Some k) (gone (Some w) all_left)
+first_left (first_later {c = c} n t) = still_there c (first_left t)
+
+-- a first piece begins with a key of its names
+first_on : {q : Roles} (key : Names) → Owns q (key ∷ []) → {cs left : Cells} {o : LinePiece}
+    → TakesFirst q cs o left → HasPassing (is_key_of key) (present cs)
+first_on key owns (first_one {k = k} {cs = cs} e) =
+    own_first key owns k (present cs) (ap is_own_role e)
+first_on key owns (first_two {k = k} {w = w} {cs = cs} e v) =
+    own_first key owns k (present (Some w ∷ cs)) (ap is_own_role e)
+first_on key owns (first_later {c = c} {cs = cs} n t) =
+    let one = first_on key owns t in
+    (one.0, Contains-append_right (option_to_list c) (present cs) one.0 one.1, one.2)
+
 -- what is left of the line of words
 pub record LeftOfLine (known : Known) (given : Given) (words : List (List ℕ)) (cs : Cells) : Type 0
   where
@@ -589,8 +612,51 @@ told_line {given = given} told by is words are = record {
   left = all_left;
 }
 
+-- Some value of what may be left out is one of what stands inside.
+pub some_turn : {T : Type 0} {part : Part T} {cs ds : Cells} {v : T}
+    → Turn (part_optional part) cs (Some v) ds → Turn part cs v ds
+some_turn {part} {cs} {ds} {v} (here g) =
+    let same : g.0 ≡ v = cc in here (subst (λ x. part.first cs x ds) same g.1)
+some_turn (absent none value same) = absent none value same
+
+-- What a closure makes of a part is made of a value of that.
+pub closed_turn : {A B : Type 0} {part : Part A} (makes : A → B → Type 0) {cs ds : Cells} {v : B}
+    → Turn (part_closed part (map_closure makes)) cs v ds
+    → (x : A) × Turn part cs x ds × makes x v
+closed_turn makes (here g) = (g.0, here g.1, g.2)
+closed_turn makes (absent none value same) = (value.0, absent none value.1 same, value.2)
+
+-- The line that has a value is left of the words' line.
+pub value_line : {T : Type 0} {known : Known} {form : ProgramForm T} {given : Given} {v : T}
+    → (value : IsProgramValueOf known form given v)
+    → LeftOfLine known given given.words (line_cells value.context)
+value_line value = record {
+  are = refl;
+  context = value.context;
+  on_line = value.on_line;
+  left = all_left;
+}
+
 module _ {known : Known} {given : Given} {words : List (List ℕ)} {cs : Cells}
     (line : LeftOfLine known given words cs) where
+  -- The key of a first entry was spelled.
+  first_spelled : {T : Type 0} {key : Names} {q : Roles} {value : LinePiece → T → Type 0}
+      {v : T} {left : Cells} → Owns q (key ∷ []) → KeyFirst q value cs v left
+      → WasSpelled known key words
+  first_spelled {key = key} owns first = subst (WasSpelled known key) line.are
+      (item_spelled (is_key_of key) known given line.context line.on_line (λ text. refl)
+      (kept_on (is_key_of key) line.left (first_on key owns first.takes)))
+
+  -- What is left behind it is left of that line.
+  behind_first : {T : Type 0} {q : Roles} {value : LinePiece → T → Type 0} {v : T}
+      {left : Cells} → KeyFirst q value cs v left → LeftOfLine known given words left
+  behind_first first = record {
+    are = line.are;
+    context = line.context;
+    on_line = line.on_line;
+    left = record { each = λ k there. line.left.each k ((first_left first.takes).each k there) };
+  }
+
   -- What is left of a line without the pieces of a field is left of that line.
   pub without_field : {q : Roles} {os : List LinePiece} {left : Cells} → Takes q cs os left
       → LeftOfLine known given words left
@@ -622,6 +688,22 @@ module _ {known : Known} {given : Given} {words : List (List ℕ)} {cs : Cells}
       none_behind : (words : List (List ℕ)) (text : List ℕ) → is_one_of words (PosWord text) ≡ false
       none_behind [] text = refl
       none_behind (word ∷ words) text = none_behind words text
+
+-- Of two keys that go together, where neither has an absent value, both were spelled.
+pub both_spelled : {known : Known} {given : Given} {words : List (List ℕ)} {A B : Type 0}
+    {key other : Names} {q r : Roles} {value : LinePiece → A → Type 0}
+    {more : LinePiece → B → Type 0} {gap : Gap A} {rest : Gap B} {cs left : Cells} {v : A × B}
+    → LeftOfLine known given words cs → Owns q (key ∷ []) → Owns r (other ∷ [])
+    → ((x : A) → gap.absent x → ⊥) → ((y : B) → rest.absent y → ⊥)
+    → Turn (part_group (key_part q value gap) (key_part r more rest)) cs v left
+    → WasSpelled known key words × WasSpelled known other words
+both_spelled line own owns none never (here (left_first first (here second))) =
+    (first_spelled line own first, first_spelled (behind_first line first) owns second)
+both_spelled line own owns none never (here (left_first first (absent none_left value same))) =
+    absurd (never _ value)
+both_spelled line own owns none never (here (right_first none_left value second)) =
+    absurd (none _ value)
+both_spelled line own owns none never (absent none_left value same) = absurd (none _ value.0)
 
 -- What follows of either of two commands follows of a choice of them.
 pub of_either : {A B X : Type 0} → A ⊎ B → (A → X) → (B → X) → X

@@ -1,34 +1,37 @@
 -- Of what each grammar owns and says: its keys are those with its names, and its values say so.
-use Rattle.bpaf_exact.proofs.OwnedKeys.{optional_owns, default_owns, dressed_owns, choice_owns}
+use Rattle.bpaf_exact.proofs.OwnedKeys.{default_owns, dressed_owns, program_either_owns}
 use Rattle.bpaf_exact.proofs.OwnedKeys.{closed_owns, repeat_owns, alone_owns, field_owns, both_owns}
 use Rattle.bpaf_exact.proofs.OwnedKeys.{none_owned, only_owns, con_owns, key_owns, OwnsKeys}
 use Rattle.bpaf_exact.proofs.ProgramSays.{program_fallback_says, program_optional_says, alone_says}
 use Rattle.bpaf_exact.proofs.ProgramSays.{program_command_says, program_dressed_says, program_says}
-use Rattle.bpaf_exact.proofs.ProgramSays.{program_choice_says, program_closed_says, field_says}
+use Rattle.bpaf_exact.proofs.ProgramSays.{program_either_says, program_closed_says, field_says}
 use Rattle.bpaf_exact.proofs.ProgramSays.{program_repeat_says, program_last_says, program_con_says}
+use Rattle.bpaf_exact.proofs.ProgramSays.{only_says, both_say, or_part_say, or_part_says}
 use Rattle.bpaf_exact.specs.ProgramForm.{program_value, CommandValue, is_program, are_plain}
 use Rattle.bpaf_exact.specs.ProgramForm.{commands, CellsValue, ProgramForm, after_parts}
+use Rattle.bpaf_exact.specs.ProgramForm.{before_commands, no_program, part, whole_program}
+use Rattle.bpaf_exact.specs.ProgramForm.{last_choice, DefaultCommands, OptionalCommands}
+use Rattle.bpaf_exact.specs.ProgramForm.{RepeatCommands}
 use Rattle.bpaf_grammar.specs.Grammar.{own, made, stretch, command_words, FieldsGrammar, GrammarOf}
 use Rattle.bpaf_grammar.specs.Grammar.{argument, fallback, optional, command, dressed, Grammar}
 use Rattle.bpaf_grammar.specs.Grammar.{both, keys_of, product, choice, closed, repeat, alone, flag}
+use Rattle.bpaf_grammar.specs.Grammar.{kept, last, only, word}
 use Rattle.bpaf_record.specs.Program.{catches, default_closure, repeat_closure, step_closure}
 use Rattle.bpaf_record.specs.Program.{ends_in_commands, program_form, are_unusual, scope_says}
+use Rattle.bpaf_record.specs.Program.{cells_say, said_kind, says, part_form}
 use Rattle.std.proofs.Common.{false, Bool, true, ◌&&◌, ◌||◌, not, [], true≢false, List}
 use Rattle.std.proofs.lemmas.Bool.{and_parts}
 use Rattle.std.specs.Option.{is_none}
 use Rattle.bpaf_base.specs.Items.{is_key_of}
 use Rattle.bpaf_laws.specs.{Command.opening_words, Combinators.is_nil}
 use Rattle.bpaf.specs.Positional.{accepts}
-use Rattle.bpaf_exact.proofs.ProgramSays.{only_says, both_say, or_part_say, or_part_says}
 use Rattle.bpaf_exact.proofs.Says.{argument_says, word_by_says, flag_says}
 use Rattle.bpaf_exact.proofs.{OwnedKeys.if_owns, OwnedKeys.or_part_owns, Places.test_owns}
 use Rattle.bpaf_exact.proofs.Leaves.{pure_says}
-use Rattle.bpaf_exact.specs.ProgramForm.{before_commands, no_program, part, whole_program}
 use Rattle.bpaf_exact.specs.Says.{FieldsSay, IsSaid, Said, SaidKind, Says, scope_told}
 use Rattle.bpaf_exact.specs.Flat.{FallbackValue, Variables, OwnList, LastOf, map_closure}
+use Rattle.bpaf_exact.specs.Flat.{OptionalValue}
 use Rattle.bpaf_exact.specs.Pieces.{WithNext, Alone}
-use Rattle.bpaf_grammar.specs.Grammar.{kept, last, only, word}
-use Rattle.bpaf_record.specs.Program.{cells_say, said_kind, says}
 use Rattle.bpaf_doc.specs.Names.{Names}
 use Rattle.bpaf_record.proofs.Makes.{made_said}
 
@@ -50,17 +53,21 @@ grammar_owns (stretch first g) variables = record { by = tt }
 grammar_owns (closed f g) variables =
     or_part_owns _ (closed_owns (step_closure f) _ (grammar_owns g variables))
 grammar_owns (dressed look g) variables = dressed_owns _ (grammar_owns g variables)
-grammar_owns (optional catch g) variables =
-    or_part_owns _ (if_owns (not catch) (optional_owns _ (grammar_owns g variables)))
+grammar_owns (optional {T = T} catch g) variables =
+    or_part_owns _ (if_owns (not catch) (default_owns _ (grammar_owns g variables)
+    (OptionalValue T) (OptionalCommands T)))
 grammar_owns (fallback {T = T} shown d g) variables =
     or_part_owns _ (default_owns _ (grammar_owns g variables)
-    (λ group gap. FallbackValue T group gap (default_closure d)))
+    (λ group gap. FallbackValue T group gap (default_closure d))
+    (DefaultCommands T ((default_closure d).yes tt)))
 grammar_owns (repeat {A = A} f g) variables = or_part_owns _ (if_owns (not (catches f))
-    (closed_owns (repeat_closure f) _ (repeat_owns _ (grammar_owns g variables) (OwnList A))))
+    (closed_owns (repeat_closure f) _
+    (repeat_owns _ (grammar_owns g variables) (OwnList A) (RepeatCommands A))))
 grammar_owns (last {T = T} g) variables =
-    or_part_owns _ (repeat_owns _ (grammar_owns g variables) (LastOf T))
-grammar_owns (choice g h) variables = or_part_owns _ (choice_owns (command_words g)
-    (command_words h) _ _ (grammar_owns g variables) (grammar_owns h variables))
+    or_part_owns _ (repeat_owns _ (grammar_owns g variables) (LastOf T) (λ value. value))
+grammar_owns (choice g h) variables = or_part_owns _ (program_either_owns (command_words g)
+    (command_words h) (part_form g variables) (part_form h variables) _ _
+    (grammar_owns g variables) (grammar_owns h variables))
 grammar_owns (only g) variables = or_part_owns _ (only_owns _ (grammar_owns g variables))
 grammar_owns (command {T = T} adjacent called info help g) variables = if_owns
     (((not adjacent && are_unusual (keys_of g false) info) && are_plain (opening_words called))
@@ -83,6 +90,7 @@ says_more {s = before_commands value} h more =
     record { by = (h.by.0, λ cs v m. more cs v (h.by.1 cs v m)) }
 says_more {s = no_program} h more = record { by = tt }
 says_more {s = part p} h more = record { by = tt }
+says_more {s = last_choice p c value} h more = record { by = tt }
 says_more {s = after_parts value} h more = record { by = tt }
 says_more h more = record { by = absurd (true≢false h.by.0) }
 
@@ -110,8 +118,9 @@ mutual
       (program_repeat_says (grammar_says g variables) (catches f) (repeat_closure f))
   grammar_says (last g) variables = or_part_says _ (program_last_says (grammar_says g variables))
   grammar_says (choice g h) variables = or_part_says _
-      (program_choice_says (keys_of g true) (keys_of h true) (command_words g) (command_words h)
-      (grammar_says g variables) (grammar_says h variables))
+      (program_either_says (keys_of g true) (keys_of h true) (command_words g) (command_words h)
+      (part_form g variables) (part_form h variables) (grammar_says g variables)
+      (grammar_says h variables))
   grammar_says (only g) variables = or_part_says _ (only_says (grammar_says g variables))
   grammar_says (command {T = T} adjacent called info help g) variables =
       let more : IsSaid (scope_told (whole_program (program_form g variables)) (ends_in_commands g)

@@ -1,21 +1,23 @@
 -- All values of a parser on the same words look alike, and its closures agree, where no part of it
 -- can tell apart what looks alike.
-use Rattle.bpaf_exact.proofs.OneView.{alone_view, argument_view, both_view, choice_view}
-use Rattle.bpaf_exact.proofs.OneView.{closed_view, command_view, con_view, fallback_view}
-use Rattle.bpaf_exact.proofs.OneView.{field_view, flag_view, if_view, last_view, list_view}
-use Rattle.bpaf_exact.proofs.OneView.{optional_field_view, view_agrees, whole_view, word_view}
-use Rattle.bpaf_exact.specs.Flat.{OwnList, Variables, map_closure, repeated, Closure, Decides}
-use Rattle.bpaf_exact.specs.ProgramForm.{AgreesRound, ProgramForm, choice_only, completed}
+use Rattle.bpaf_exact.proofs.OneView.{alone_view, argument_view, both_view, closed_view}
+use Rattle.bpaf_exact.proofs.OneView.{command_view, con_view, fallback_view, field_view, flag_view}
+use Rattle.bpaf_exact.proofs.OneView.{if_view, last_view, repeat_view, optional_field_view}
+use Rattle.bpaf_exact.proofs.OneView.{view_agrees, word_view}
+use Rattle.bpaf_exact.proofs.LastView.{program_either_view}
+use Rattle.bpaf_exact.specs.Flat.{Variables, map_closure, Closure, Decides}
+use Rattle.bpaf_exact.specs.ProgramForm.{AgreesRound, ProgramForm, choice_only}
 use Rattle.bpaf_exact.specs.ProgramForm.{product as flat_product, part as part_alone}
-use Rattle.bpaf_exact.specs.ProgramForm.{program_closed}
+use Rattle.bpaf_exact.specs.ProgramForm.{program_closed, program_repeat, program_dressed}
+use Rattle.bpaf_exact.specs.ProgramForm.{program_field, program_optional}
 use Rattle.bpaf_grammar.specs.Grammar.{Default, FieldsGrammar, Grammar, GrammarOf, Look, Repeat}
 use Rattle.bpaf_grammar.specs.Grammar.{Step, alone, answered, argument, both, choice, cloned}
 use Rattle.bpaf_grammar.specs.Grammar.{closed, collect, count, many, some, command, dressed}
 use Rattle.bpaf_grammar.specs.Grammar.{fallback, flag, guarded, keys_of, kept, last, mapped, only}
+use Rattle.bpaf_grammar.specs.Grammar.{optional, parsed, product, repeat, word}
 use Rattle.bpaf_record.specs.Program.{agrees_of, are_unusual, catches, default_agrees}
 use Rattle.bpaf_record.specs.Program.{default_closure, program_form, repeat_closure, step_agrees}
-use Rattle.bpaf_record.specs.Program.{AgreesWith, part_form}
-use Rattle.bpaf_record.specs.Program.{step_closure}
+use Rattle.bpaf_record.specs.Program.{AgreesWith, part_form, step_closure, repeated_part}
 use Rattle.bpaf_exact.proofs.PartView.{argument_part_view, both_part_view, choice_part_view}
 use Rattle.bpaf_exact.proofs.PartView.{closed_part_view, default_part_view, flag_part_view}
 use Rattle.bpaf_exact.proofs.PartView.{kept_part_view, last_part_view, optional_part_view}
@@ -28,12 +30,9 @@ use Rattle.bpaf_laws.specs.{Reading.Outcome, Command.Called}
 use Rattle.bpaf_text.specs.Named.{KeyWithValue, Named as Key}
 use Rattle.bpaf_exact.proofs.{PartLast.argument_part_form_law, PartFlags.flag_part_form_law}
 use Rattle.bpaf_exact.proofs.{PartView.some_part_view, OneView.or_part_view}
-use Rattle.bpaf_exact.specs.ProgramForm.{program_dressed, program_field, program_optional}
 use Rattle.bpaf_exact.specs.Says.{Alike, HasOneView, Respects, pair_view, PartFormOneView}
 use Rattle.bpaf_exact.specs.{Parts.PartForm, Parts.PartFormLaw, Flat.list_closure}
-use Rattle.bpaf_grammar.specs.Grammar.{optional, parsed, product, repeat, word}
 use Rattle.bpaf_grammar.specs.declared.position.Position.{Position}
-use Rattle.bpaf_record.specs.Program.{repeated_part}
 use Rattle.bpaf_record.proofs.FormLaws.{fields_law, law_of, part_law_of}
 use Rattle.bpaf.specs.Positional.{accepts}
 
@@ -263,12 +262,11 @@ mutual
       (part_law_of g (agrees_seen is) variables) (part_seen is variables))
   view_seen (repeat_seen {A = A} {B = B} {X = X} {Y = Y} {see = see} {look = look} {f = f} {g = g}
       respects is) variables =
-      let lists = completed repeated (OwnList A) (program_form g variables) in
+      let lists = program_repeat (program_form g variables) in
       or_part_view look _ _
       (if_view look (program_closed (repeat_closure f) lists) (not (catches f))
       (closed_view (List A) B (List X) Y (map see) look (repeat_closure f) respects lists
-      (whole_view see (map see) repeated (OwnList A) list_view
-      (law_of g (agrees_seen is) variables) (view_seen is variables))))
+      (repeat_view see (law_of g (agrees_seen is) variables) (view_seen is variables))))
       (repeated_view see f respects (part_law_of g (agrees_seen is) variables)
       (part_seen is variables))
   view_seen (last_seen {see = see} {g = g} is) variables =
@@ -276,9 +274,12 @@ mutual
       (view_seen is variables))
       (last_part_view see (part_law_of g (agrees_seen is) variables) (part_seen is variables))
   view_seen (choice_seen {see = see} {g = g} {h = h} is other) variables =
-      or_part_view see _ _ (choice_view see (program_form g variables) (program_form h variables)
+      or_part_view see _ _ (program_either_view see (part_form g variables)
+      (part_form h variables) (program_form g variables) (program_form h variables)
       (law_of g (agrees_seen is) variables) (law_of h (agrees_seen other) variables)
-      (view_seen is variables) (view_seen other variables)) (choice_part_view see
+      (part_law_of g (agrees_seen is) variables) (part_law_of h (agrees_seen other) variables)
+      (part_seen is variables) (part_seen other variables) (view_seen is variables)
+      (view_seen other variables)) (choice_part_view see
       (part_law_of g (agrees_seen is) variables) (part_law_of h (agrees_seen other) variables)
       (part_seen is variables) (part_seen other variables))
   view_seen (only_seen {see = see} {g = g} is) variables =

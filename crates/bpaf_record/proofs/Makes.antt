@@ -2,34 +2,33 @@
 use Rattle.bpaf_grammar.specs.Grammar.{GrammarOf, Repeat, alone, argument, both, choice, closed}
 use Rattle.bpaf_grammar.specs.Grammar.{collect, command, command_words, count, dressed, fallback}
 use Rattle.bpaf_grammar.specs.Grammar.{flag, kept, keys_of, last, many, only, optional, product}
-use Rattle.bpaf_exact.specs.Flat.{Closure, FallbackValue, FieldKind, Gap, Groups, LastOf, OwnList}
+use Rattle.bpaf_grammar.specs.Grammar.{repeat, some, word}
+use Rattle.bpaf_exact.specs.Flat.{Closure, FallbackValue, FieldKind, Gap, Groups, LastOf, Variables}
+use Rattle.bpaf_exact.specs.Flat.{list_closure, map_closure, repeated, some_closure, OptionalValue}
 use Rattle.std.proofs.Common.{arith, false, true, Bool, List, not, refl, ◌≡◌, length, ◌&&◌, ◌||◌, ℕ}
 use Rattle.std.specs.Option.{is_none}
 use Rattle.bpaf_doc.specs.Names.{Names}
 use Rattle.bpaf_laws.specs.{Command.opening_words, Combinators.is_nil}
-use Rattle.bpaf_grammar.specs.Grammar.{repeat, some, word}
-use Rattle.bpaf_exact.specs.Flat.{Variables, list_closure, map_closure, repeated, some_closure}
 use Rattle.bpaf_exact.specs.Pieces.{LinePiece, Roles, are_all_apart}
 use Rattle.bpaf_exact.specs.Parts as parts
 use Rattle.bpaf_exact.specs.Parts.{Part, PartForm, is_part, of_part, of_parts, part_choice}
 use Rattle.bpaf_exact.specs.Parts.{part_closed, part_default, part_group, part_last, part_optional}
+use Rattle.bpaf_exact.specs.Parts.{part_repeat, part_some}
 use Rattle.bpaf_exact.specs.ProgramForm.{CellsValue, ProgramForm, after_parts, alternative}
 use Rattle.bpaf_exact.specs.ProgramForm.{are_plain, before_commands, choice_only, commands}
 use Rattle.bpaf_exact.specs.ProgramForm.{complete, completed, is_program, key_field, no_program}
 use Rattle.bpaf_exact.specs.ProgramForm.{or_part, part, product_roles, program_alone, program_both}
-use Rattle.bpaf_exact.specs.ProgramForm.{program_choice, program_closed, program_con}
-use Rattle.bpaf_exact.specs.ProgramForm.{program_dressed, program_field, program_if}
-use Rattle.bpaf_exact.specs.ProgramForm.{program_optional, single, whole_program}
+use Rattle.bpaf_exact.specs.ProgramForm.{program_closed, program_con, program_dressed}
+use Rattle.bpaf_exact.specs.ProgramForm.{program_field, program_if, single, whole_program}
+use Rattle.bpaf_exact.specs.ProgramForm.{product as flat_product, program_repeat, DefaultCommands}
+use Rattle.bpaf_exact.specs.ProgramForm.{OptionalCommands, program_either, last_choice}
 use Rattle.bpaf_record.specs.Program.{AnyPart, FlatFields, Make, OneRead, OnlyCommands, WholeField}
 use Rattle.bpaf_record.specs.Program.{alone_make, are_unusual, both_make, catches, choice_make}
 use Rattle.bpaf_record.specs.Program.{closed_make, completed_make, con_make, default_closure}
-use Rattle.bpaf_record.specs.Program.{is_flat, make_of, only_make, optional_make, part_form}
-use Rattle.bpaf_record.specs.Program.{program_form, repeat_closure, repeated_part, scope_by}
+use Rattle.bpaf_record.specs.Program.{is_flat, make_of, only_make, part_form, program_form}
+use Rattle.bpaf_record.specs.Program.{repeat_closure, repeated_part, scope_by, step_closure}
 use Rattle.bpaf_exact.specs.Says.{IsSaid, Said, scope_said, scope_told}
-use Rattle.bpaf_exact.specs.ProgramForm.{product as flat_product}
-use Rattle.bpaf_exact.specs.Parts.{part_repeat, part_some}
 use Rattle.bpaf_record.proofs.Parts.{Fits, parts_fit}
-use Rattle.bpaf_record.specs.Program.{step_closure}
 
 -- a form is one that such a grammar has
 abbrev is_made : {T : Type 0} → Make → ProgramForm T → Bool
@@ -70,36 +69,38 @@ if_made false AnyPart s p h = refl
 
 module _ {A B : Type 0} (m : Make) (s : ProgramForm A) (p : PartForm A) (fits : Fits s p)
     (made : is_made m s ≡ true) (more : Part A → Part B) where
+  -- with a closure
   closed_made : (f : Closure A B)
       → is_made (closed_make m) (or_part (program_closed f s) (of_part more p)) ≡ true
   closed_made f = grind arith
 
+  -- with a repeat or a default of a kind
   completed_made : (kind : FieldKind → FieldKind)
-      (value : Groups A → Gap A → List LinePiece → B → Type 0)
-      → is_made (completed_make m) (or_part (completed kind value s) (of_part more p)) ≡ true
-  completed_made kind value = grind arith
+      (value : Groups A → Gap A → List LinePiece → B → Type 0) (round : CellsValue A → CellsValue B)
+      → is_made (completed_make m) (or_part (completed kind value round s) (of_part more p)) ≡ true
+  completed_made kind value round = grind arith
 
+  -- with a closure on the list of a repeat
   listed_made : (f : Closure (List A) B) → is_made (completed_make m)
-      (or_part (program_closed f (completed repeated (OwnList A) s)) (of_part more p)) ≡ true
+      (or_part (program_closed f (program_repeat s)) (of_part more p)) ≡ true
   listed_made f = grind arith
 
+  -- a constructor
   con_made : (f : Closure A B)
       → is_made (con_make m) (or_part (program_con f s) (of_part more p)) ≡ true
   con_made f = grind arith
 
 module _ {T : Type 0} (m : Make) (s : ProgramForm T) (p : PartForm T) (fits : Fits s p)
     (made : is_made m s ≡ true) where
-  optional_made : (catch : Bool) → is_made (optional_make m)
-      (or_part (program_if (not catch) (program_optional s))
-      (parts.part_if (not catch) (of_part part_optional p))) ≡ true
-  optional_made catch = grind arith
-
+  -- one parser of a choice
   only_made : is_made (only_make m) (or_part (choice_only s) p) ≡ true
   only_made = grind arith
 
+  -- another look
   dressed_made : is_made m (program_dressed s) ≡ true
   dressed_made = grind arith
 
+  -- the last field
   alone_made : is_made (alone_make m) (program_alone (program_field s)) ≡ true
   alone_made = grind arith
 
@@ -115,27 +116,30 @@ none_of_two b f p r none = grind arith
 
 -- a choice of commands
 commands_chosen : {T : Type 0} (own others : List Names) (words more : List (List ℕ))
-    (s t : ProgramForm T) (p : PartForm T) → is_made OnlyCommands s ≡ true
-    → is_made OnlyCommands t ≡ true → is_part p ≡ false
-    → is_made OnlyCommands (or_part (program_choice own others words more s t) p) ≡ true
-commands_chosen own others words more no_program t p made ready none = grind arith
-commands_chosen own others words more (commands false x) (commands false y) p made ready none =
+    (s t : ProgramForm T) (p r q : PartForm T) → is_made OnlyCommands s ≡ true
+    → is_made OnlyCommands t ≡ true → is_part p ≡ false → is_part r ≡ false → is_part q ≡ false
+    → is_made OnlyCommands (or_part (program_either own others words more p r s t) q) ≡ true
+commands_chosen own others words more no_program t p r q made ready none never nothing = grind arith
+commands_chosen own others words more (commands false x) (commands false y) p r q made ready none
+    never nothing = grind arith
+commands_chosen own others words more (commands may x) no_program p r q made ready none never
+    nothing = grind arith
+commands_chosen own others words more (commands false x) (commands true y) p r q made ready none
+    never nothing = grind arith
+commands_chosen own others words more (commands true x) t p r q made ready none never nothing =
     grind arith
-commands_chosen own others words more (commands may x) no_program p made ready none = grind arith
-commands_chosen own others words more (commands false x) (commands true y) p made ready none =
-    grind arith
-commands_chosen own others words more (commands true x) t p made ready none = grind arith
-commands_chosen own others words more _ _ p made ready none = absurd cc
+commands_chosen own others words more _ _ p r q made ready none never nothing = absurd cc
 
 -- a choice of two
 choice_made : {T : Type 0} (own others : List Names) (words more : List (List ℕ)) (m n : Make)
     (s t : ProgramForm T) (p r : PartForm T) → Fits s p → Fits t r → is_made m s ≡ true
     → is_made n t ≡ true → is_made (choice_make m n) (or_part
-    (program_choice own others words more s t)
+    (program_either own others words more p r s t)
     (parts.part_if (are_all_apart own others) (of_parts part_choice p r))) ≡ true
 choice_made own others words more OnlyCommands OnlyCommands s t p r fits fit made ready =
-    commands_chosen own others words more s t _ made ready
-    (none_of_two (are_all_apart own others) part_choice p r (commands_apart s p fits made))
+    let none = commands_apart s p fits made in
+    commands_chosen own others words more s t p r _ made ready none (commands_apart t r fit ready)
+    (none_of_two (are_all_apart own others) part_choice p r none)
 choice_made own others words more _ _ s t p r fits fit made ready = refl
 
 -- a field before others
@@ -156,7 +160,7 @@ both_made own others _ _ s t p r fits fit made ready = refl
 repeat_made : {A B : Type 0} (f : Repeat A B) (m : Make) (s : ProgramForm A) (p : PartForm A)
     → Fits s p → is_made m s ≡ true → is_made (completed_make m) (or_part
     (program_if (not (catches f))
-    (program_closed (repeat_closure f) (completed repeated (OwnList A) s))) (repeated_part f p))
+    (program_closed (repeat_closure f) (program_repeat s))) (repeated_part f p))
     ≡ true
 repeat_made (many {T = T} catch) m s p h made = if_made (not catch) m _ _
     (listed_made m s p h made (λ z. part_closed (part_repeat z) (list_closure T)) (list_closure T))
@@ -184,17 +188,20 @@ made_of (closed f g) variables = closed_made (make_of g) (program_form g variabl
     (λ p. part_closed p (step_closure f)) (step_closure f)
 made_of (dressed look g) variables = dressed_made (make_of g) (program_form g variables)
     (part_form g variables) (parts_fit g variables) (made_of g variables)
-made_of (optional catch g) variables = optional_made (make_of g) (program_form g variables)
-    (part_form g variables) (parts_fit g variables) (made_of g variables) catch
+made_of (optional {T = T} catch g) variables = if_made (not catch) (make_of g) _ _
+    (completed_made (make_of g) (program_form g variables) (part_form g variables)
+    (parts_fit g variables) (made_of g variables) part_optional (λ k. k) (OptionalValue T)
+    (OptionalCommands T))
 made_of (fallback {T = T} shown d g) variables = completed_made (make_of g)
     (program_form g variables) (part_form g variables) (parts_fit g variables)
     (made_of g variables) (λ p. part_default p (default_closure d)) (λ k. k)
     (λ group gap. FallbackValue T group gap (default_closure d))
+    (DefaultCommands T ((default_closure d).yes tt))
 made_of (repeat f g) variables = repeat_made f (make_of g) (program_form g variables)
     (part_form g variables) (parts_fit g variables) (made_of g variables)
 made_of (last {T = T} g) variables = completed_made (make_of g) (program_form g variables)
     (part_form g variables) (parts_fit g variables) (made_of g variables) part_last repeated
-    (LastOf T)
+    (LastOf T) (λ value. value)
 made_of (choice g h) variables = choice_made (keys_of g true) (keys_of h true) (command_words g)
     (command_words h) (make_of g) (make_of h) (program_form g variables) (program_form h variables)
     (part_form g variables) (part_form h variables) (parts_fit g variables) (parts_fit h variables)
@@ -232,6 +239,10 @@ flat_said m (part p) flat made c said cells = absurd (never m flat made)
 flat_said m (after_parts value) flat made c said cells = absurd (never m flat made)
   where
     never : (m : Make) → is_flat m ≡ true → is_made m (after_parts value) ≡ true → ⊥
+    never m flat made = grind arith
+flat_said m (last_choice p own value) flat made c said cells = absurd (never m flat made)
+  where
+    never : (m : Make) → is_flat m ≡ true → is_made m (last_choice p own value) ≡ true → ⊥
     never m flat made = grind arith
 flat_said m s flat made c said cells = λ cs v told. told
 

@@ -1,40 +1,41 @@
 -- What the combinators make of a part of a program, a choice of any number of parsers among them.
 use Rattle.std.proofs.Common.{slice_index_or, if◌then◌else◌, append_assoc, append-nil, flat_map, []}
 use Rattle.std.proofs.Common.{length, false, arith, Bool, true, ◌&&◌, List, ◌++◌, refl, zero, take}
-use Rattle.bpaf_exact.specs.Flat.{FallbackValue, FieldKind, repeated, OwnList, Closure, Groups, Gap}
-use Rattle.bpaf_exact.specs.ProgramForm.{program_command, program_closed, program_choice, completed}
+use Rattle.std.proofs.Common.{◌≡◌, ◌||◌, not, ◌∷◌, sym, ◌∙◌, suc, ◌+◌, ◌<◌, ◌≤◌, ap, ℕ}
+use Rattle.bpaf_exact.specs.Flat.{FallbackValue, FieldKind, repeated, Closure, Groups, Gap}
+use Rattle.bpaf_exact.specs.Flat.{OptionalValue, Variables, map_closure, list_closure, some_closure}
+use Rattle.bpaf_exact.specs.ProgramForm.{program_command, program_closed, program_either, completed}
 use Rattle.bpaf_exact.specs.ProgramForm.{program_alone, program_field, program_both, choice_only}
-use Rattle.bpaf_exact.specs.ProgramForm.{program_optional, program_dressed, are_words_apart}
-use Rattle.bpaf_exact.specs.ProgramForm.{program_con, ProgramForm, program_if, is_program}
+use Rattle.bpaf_exact.specs.ProgramForm.{program_dressed, are_words_apart, program_con, ProgramForm}
+use Rattle.bpaf_exact.specs.ProgramForm.{program_if, is_program, program_default, program_repeat}
+use Rattle.bpaf_exact.specs.ProgramForm.{DefaultCommands, OptionalCommands, may_follow, is_record}
+use Rattle.bpaf_exact.specs.ProgramForm.{are_plain, has_part, is_named, key_field, or_part}
+use Rattle.bpaf_exact.specs.ProgramForm.{CellsValue, commands, alternative, no_program, as_last}
+use Rattle.bpaf_exact.specs.ProgramForm.{both_last, is_commands, last_choice, or_form}
+use Rattle.bpaf_exact.specs.ProgramForm.{program_choice}
 use Rattle.bpaf_record.specs.Part.{dressed_part, command_part, closed_part, chosen_part, field_part}
 use Rattle.bpaf_record.specs.Part.{before_part, only_part, last_part, made_part, may_stand, kind_of}
-use Rattle.bpaf_record.specs.Part.{is_program_part, completed_part, is_record_part, optional_part}
+use Rattle.bpaf_record.specs.Part.{is_program_part, completed_part, is_record_part, form_part}
+use Rattle.bpaf_record.specs.Part.{part_if, has_named_part}
 use Rattle.bpaf_grammar.specs.Grammar.{command_words, choices_of, FieldsGrammar, Grammar, GrammarOf}
 use Rattle.bpaf_grammar.specs.Grammar.{alone, argument, both, choice, closed, collect, command}
 use Rattle.bpaf_grammar.specs.Grammar.{count, dressed, fallback, flag, keys_of, last, many, only}
+use Rattle.bpaf_grammar.specs.Grammar.{optional, product, repeat, some, Repeat}
 use Rattle.bpaf_record.specs.Program.{are_unusual, catches, default_closure, part_form}
-use Rattle.std.proofs.Common.{◌≡◌, ◌||◌, not, ◌∷◌, sym, ◌∙◌, suc, ◌+◌, ◌<◌, ◌≤◌, ap, ℕ, Option}
+use Rattle.bpaf_record.specs.Program.{program_form, repeat_closure, repeated_part, step_closure}
 use Rattle.std.proofs.{lemmas.List.Folds.list_all-append, lemmas.List.take_more}
 use Rattle.std.specs.List.{list_all}
 use Rattle.bpaf_grammar.proofs.Choices.{nested_more}
 use Rattle.bpaf_doc.specs.Names.{Names}
 use Rattle.bpaf_laws.specs.{Command.opening_words, Command.Called, Choice.Nested}
-use Rattle.bpaf_exact.specs.ProgramForm.{may_follow, is_record, are_plain}
 use Rattle.bpaf_exact.specs.{Pieces.are_all_apart, Pieces.LinePiece, Flat.LastOf}
-use Rattle.bpaf_record.specs.Program.{program_form, repeat_closure, repeated_part, step_closure}
-use Rattle.bpaf_record.specs.Part.{form_part, part_if, has_named_part}
 use Rattle.bpaf_record.specs.declared.part.ProgramPart.{ProgramPart as Told}
-use Rattle.bpaf_grammar.specs.Grammar.{optional, product, repeat, some, Repeat}
 use Rattle.bpaf_exact.specs.Parts as parts
 use Rattle.bpaf_exact.specs.Parts.{Part, PartForm, is_part, of_part, of_parts, part_choice}
 use Rattle.bpaf_exact.specs.Parts.{part_closed, part_default, part_group, part_last, part_optional}
-use Rattle.bpaf_exact.specs.ProgramForm.{has_part, is_named, key_field, or_part, CellsValue}
-use Rattle.bpaf_exact.specs.Flat.{Variables, map_closure, list_closure, some_closure}
-use Rattle.bpaf_exact.specs.ProgramForm.{commands, alternative, no_program}
 use Rattle.bpaf_exact.specs.Parts.{part_repeat, part_some, no_part, some_part}
 use Rattle.bpaf_exact.specs.Pieces.{Roles}
 use Rattle.bpaf_record.specs.declared.part.ProgramPart.TheVariants as ProgramPart
-use Rattle.std.proofs.Common.{ap₂}
 use Rattle.std.specs.Option.{is_none}
 use Rattle.bpaf_laws.specs.Combinators.{is_nil}
 
@@ -79,6 +80,7 @@ if_fits : {T : Type 0} (b : Bool) (s : ProgramForm T) (p : PartForm T) → Fits 
 if_fits true s p h = h
 if_fits false s p h = refl
 
+-- where a test holds
 if_part_is : {T : Type 0} (b : Bool) {x : Told} (s : ProgramForm T) (p : PartForm T)
     → x ≡ form_part (or_part s p)
     → part_if b x ≡ form_part (or_part (program_if b s) (parts.part_if b p))
@@ -92,27 +94,30 @@ module _ {A B : Type 0} (s : ProgramForm A) (p : PartForm A) (fits : Fits s p)
       → Fits (or_part (program_closed f s) (of_part more p)) (of_part more p)
   closed_fits f = grind arith
 
+  -- a closure
   closed_is : (f : Closure A B)
       → closed_part (form_part s) ≡ form_part (or_part (program_closed f s) (of_part more p))
   closed_is f = grind arith
 
   -- a repeat or a default of a kind
   completed_fits : (kind : FieldKind → FieldKind)
-      (value : Groups A → Gap A → List LinePiece → B → Type 0)
+      (value : Groups A → Gap A → List LinePiece → B → Type 0) (round : CellsValue A → CellsValue B)
       → ((k : FieldKind) → is_named k ≡ is_named (kind k))
-      → Fits (or_part (completed kind value s) (of_part more p)) (of_part more p)
-  completed_fits kind value same = grind arith
+      → Fits (or_part (completed kind value round s) (of_part more p)) (of_part more p)
+  completed_fits kind value round same = grind arith
 
+  -- a repeat or a default of a kind
   completed_is : (kind : FieldKind → FieldKind)
-      (value : Groups A → Gap A → List LinePiece → B → Type 0)
-      → ((k : FieldKind) → kind_of k ≡ kind_of (kind k))
-      → completed_part (form_part s) ≡ form_part (or_part (completed kind value s) (of_part more p))
-  completed_is kind value same = grind arith
+      (value : Groups A → Gap A → List LinePiece → B → Type 0) (round : CellsValue A → CellsValue B)
+      → ((k : FieldKind) → kind_of k ≡ kind_of (kind k)) → completed_part (form_part s)
+      ≡ form_part (or_part (completed kind value round s) (of_part more p))
+  completed_is kind value round same = grind arith
 
   -- a constructor
   con_fits : (f : Closure A B) → Fits (or_part (program_con f s) (of_part more p)) (of_part more p)
   con_fits f = grind arith
 
+  -- a constructor
   con_is : (f : Closure A B)
       → made_part (form_part s) ≡ form_part (or_part (program_con f s) (of_part more p))
   con_is f = grind arith
@@ -120,28 +125,22 @@ module _ {A B : Type 0} (s : ProgramForm A) (p : PartForm A) (fits : Fits s p)
 -- a closure on the list of a repeat
 module _ {A B : Type 0} (s : ProgramForm A) (p : PartForm A) (fits : Fits s p)
     (more : Part A → Part B) (f : Closure (List A) B) where
-  listed_fits : Fits (or_part (program_closed f (completed repeated (OwnList A) s))
+  -- the list of a repeat with a closure
+  listed_fits : Fits (or_part (program_closed f (program_repeat s))
       (of_part more p)) (of_part more p)
   listed_fits = grind arith
 
+  -- the same
   listed_is : completed_part (form_part s)
-      ≡ form_part (or_part (program_closed f (completed repeated (OwnList A) s)) (of_part more p))
+      ≡ form_part (or_part (program_closed f (program_repeat s)) (of_part more p))
   listed_is = grind (arith, repeated_is)
 
 module _ {T : Type 0} (s : ProgramForm T) (p : PartForm T) (fits : Fits s p) where
-  -- what may be left out
-  optional_fits : (more : Part T → Part (Option T))
-      → Fits (or_part (program_optional s) (of_part more p)) (of_part more p)
-  optional_fits more = grind arith
-
-  optional_is : (more : Part T → Part (Option T))
-      → optional_part (form_part s) ≡ form_part (or_part (program_optional s) (of_part more p))
-  optional_is more = grind arith
-
   -- one parser of a choice
   only_fits : Fits (or_part (choice_only s) p) p
   only_fits = grind arith
 
+  -- one parser of a choice
   only_is : only_part (form_part s) ≡ form_part (or_part (choice_only s) p)
   only_is = grind arith
 
@@ -153,13 +152,33 @@ module _ {T : Type 0} (s : ProgramForm T) (p : PartForm T) (fits : Fits s p) whe
   alone_fits : Fits (program_alone (program_field s)) p
   alone_fits = grind arith
 
+-- it is nothing, or a choice of named parts and commands
+abbrev is_chosen : {T : Type 0} → ProgramForm T → Bool
+is_chosen no_program = true
+is_chosen (last_choice p own value) = true
+is_chosen _ = false
+
+-- two such together are
+both_chosen : {T : Type 0} (b : Bool) (s t : ProgramForm T)
+    → is_chosen (program_if b (both_last s t)) ≡ true
+both_chosen b s t = grind arith
+
+-- which leaves a part what it is
+or_fits : {T : Type 0} (s t : ProgramForm T) (p : PartForm T) → is_chosen t ≡ true
+    → Fits (or_part s p) p → Fits (or_part (or_form s t) p) p
+or_fits s t p chosen fits = grind arith
+
 -- a choice of two
 module _ {T : Type 0} (own others : List Names) (words more : List (List ℕ)) (s t : ProgramForm T)
     (p r : PartForm T) (fits : Fits s p) (fit : Fits t r) where
-  choice_fits : Fits (or_part (program_choice own others words more s t)
+  -- a choice of two
+  choice_fits : Fits (or_part (program_either own others words more p r s t)
       (parts.part_if (are_all_apart own others) (of_parts part_choice p r)))
       (parts.part_if (are_all_apart own others) (of_parts part_choice p r))
-  choice_fits = grind arith
+  choice_fits = or_fits (program_choice own others words more s t) _ _
+      (both_chosen (are_words_apart words more
+      && (are_all_apart own others || (is_commands s || is_commands t))) (as_last words p s)
+      (as_last more r t)) (grind arith)
 
 -- where the flat form is nothing
 none_is : {A B C : Type 0} (b : Bool) (f : Part A → Part B → Part C) (p : PartForm A)
@@ -170,19 +189,18 @@ none_is true f (some_part p) no_part = refl
 none_is true f no_part r = refl
 none_is false f p r = refl
 
+-- the same
 choice_is : {T : Type 0} (own others : List Names) (words more : List (List ℕ))
     (s t : ProgramForm T) (p r : PartForm T) → Fits s p → Fits t r
     → chosen_part (are_all_apart own others) (are_words_apart words more) (form_part s)
-    (form_part t) ≡ form_part (or_part (program_choice own others words more s t)
+    (form_part t) ≡ form_part (or_part (program_either own others words more p r s t)
     (parts.part_if (are_all_apart own others) (of_parts part_choice p r)))
 choice_is own others words more (alternative wide q x) (alternative other r y) p u fits fit =
-    grind (arith, are_all_apart own others)
+    grind (arith, are_all_apart own others, are_words_apart words more)
 choice_is own others words more (commands false x) (commands false y) p r fits fit =
-    grind (arith, are_words_apart words more)
-choice_is own others words more s t p r fits fit = ap₂
-    (λ a b. part_if (are_all_apart own others && (a && b)) ProgramPart.Part)
-    (has_is s ∙ sym fits) (has_is t ∙ sym fit)
-    ∙ none_is (are_all_apart own others) part_choice p r
+    grind (arith, are_all_apart own others, are_words_apart words more)
+choice_is own others words more s t p r fits fit =
+    grind (arith, are_all_apart own others, are_words_apart words more)
 
 -- keys may stand after a field
 stands : (k : FieldKind) (own others : List Names) → may_stand (kind_of k)
@@ -192,11 +210,13 @@ stands s own others = grind arith
 -- a field before others
 module _ {A B : Type 0} (own others : List Names) (s : ProgramForm A) (t : ProgramForm B)
     (p : PartForm A) (r : PartForm B) (fits : Fits s p) (fit : Fits t r) where
+  -- a field before others
   both_fits : Fits (or_part (program_both own others (program_field s) t)
       (parts.part_if (are_all_apart own others) (of_parts part_group p r)))
       (parts.part_if (are_all_apart own others) (of_parts part_group p r))
   both_fits = grind arith
 
+  -- the same
   both_is : before_part (field_part (form_part s)) (form_part t) (are_all_apart own others)
       (list_all (λ names. false) others)
       ≡ form_part (or_part (program_both own others (program_field s) t)
@@ -206,7 +226,7 @@ module _ {A B : Type 0} (own others : List Names) (s : ProgramForm A) (t : Progr
 -- a repeat
 repeat_fits : {A B : Type 0} (f : Repeat A B) (s : ProgramForm A) (p : PartForm A) → Fits s p
     → Fits (or_part (program_if (not (catches f))
-    (program_closed (repeat_closure f) (completed repeated (OwnList A) s))) (repeated_part f p))
+    (program_closed (repeat_closure f) (program_repeat s))) (repeated_part f p))
     (repeated_part f p)
 repeat_fits (many {T = T} catch) s p h = if_fits (not catch) _ _
     (listed_fits s p h (λ z. part_closed (part_repeat z) (list_closure T)) (list_closure T))
@@ -231,19 +251,20 @@ parts_fit (closed f g) variables = closed_fits (program_form g variables) (part_
     (parts_fit g variables) _ (step_closure f)
 parts_fit (dressed look g) variables =
     dressed_fits (program_form g variables) (part_form g variables) (parts_fit g variables)
-parts_fit (optional catch g) variables =
-    if_fits (not catch) _ _ (optional_fits (program_form g variables) (part_form g variables)
-    (parts_fit g variables) part_optional)
+parts_fit (optional {T = T} catch g) variables =
+    if_fits (not catch) _ _ (completed_fits (program_form g variables) (part_form g variables)
+    (parts_fit g variables) part_optional (λ k. k) (OptionalValue T) (OptionalCommands T)
+    (λ k. refl))
 parts_fit (fallback {T = T} shown d g) variables =
     completed_fits (program_form g variables) (part_form g variables) (parts_fit g variables)
     (λ p. part_default p (default_closure d)) (λ k. k)
-    (λ group gap. FallbackValue T group gap (default_closure d)) (λ k. refl)
+    (λ group gap. FallbackValue T group gap (default_closure d))
+    (DefaultCommands T ((default_closure d).yes tt)) (λ k. refl)
 parts_fit (repeat f g) variables = repeat_fits f (program_form g variables) (part_form g variables)
     (parts_fit g variables)
 parts_fit (last {T = T} g) variables =
     completed_fits (program_form g variables) (part_form g variables) (parts_fit g variables)
-    part_last
-    repeated (LastOf T) (λ k. grind arith)
+    part_last repeated (LastOf T) (λ value. value) (λ k. grind arith)
 parts_fit (choice g h) variables = choice_fits (keys_of g true) (keys_of h true) (command_words g)
     (command_words h) (program_form g variables) (program_form h variables)
     (part_form g variables) (part_form h variables) (parts_fit g variables) (parts_fit h variables)
@@ -285,7 +306,7 @@ module _ {T : Type 0} (g : Grammar T) (variables : Variables) where
   pub repeat_part_is : {B : Type 0} (catch : Bool) (f : Closure (List T) B) (more : Part T → Part B)
       → part_if (not catch) (completed_part (form_part (program_form g variables)))
       ≡ form_part (or_part (program_if (not catch)
-      (program_closed f (completed repeated (OwnList T) (program_form g variables))))
+      (program_closed f (program_repeat (program_form g variables))))
       (parts.part_if (not catch) (of_part more (part_form g variables))))
   repeat_part_is catch f more =
       if_part_is (not catch) _ _ (listed_is (program_form g variables) (part_form g variables)
@@ -295,7 +316,7 @@ module _ {T : Type 0} (g : Grammar T) (variables : Variables) where
   pub listed_part_is : {B : Type 0} (f : Closure (List T) B) (more : Part T → Part B)
       → completed_part (form_part (program_form g variables))
       ≡ form_part (or_part
-      (program_closed f (completed repeated (OwnList T) (program_form g variables)))
+      (program_closed f (program_repeat (program_form g variables)))
       (of_part more (part_form g variables)))
   listed_part_is f more = listed_is (program_form g variables) (part_form g variables)
       (parts_fit g variables) more f
@@ -304,23 +325,24 @@ module _ {T : Type 0} (g : Grammar T) (variables : Variables) where
   pub last_part_is : completed_part (form_part (program_form g variables))
       ≡ form_part (program_form (last g) variables)
   last_part_is = completed_is (program_form g variables) (part_form g variables)
-      (parts_fit g variables) part_last repeated (LastOf T) repeated_is
+      (parts_fit g variables) part_last repeated (LastOf T) (λ value. value) repeated_is
 
   -- a default
-  pub fallback_part_is : (value : Groups T → Gap T → List LinePiece → T → Type 0)
-      (more : Part T → Part T) → completed_part (form_part (program_form g variables))
-      ≡ form_part (or_part (completed (λ k. k) value (program_form g variables))
+  pub fallback_part_is : (f : Closure (Unit {0}) T) (more : Part T → Part T)
+      → completed_part (form_part (program_form g variables))
+      ≡ form_part (or_part (program_default f (program_form g variables))
       (of_part more (part_form g variables)))
-  fallback_part_is value more = completed_is (program_form g variables) (part_form g variables)
-      (parts_fit g variables) more (λ k. k) value (λ k. refl)
+  fallback_part_is f more = completed_is (program_form g variables) (part_form g variables)
+      (parts_fit g variables) more (λ k. k)
+      (λ group gap. FallbackValue T group gap f) (DefaultCommands T (f.yes tt)) (λ k. refl)
 
   -- what may be left out, and may catch
   pub optional_part_is : (catch : Bool)
-      → part_if (not catch) (optional_part (form_part (program_form g variables)))
+      → part_if (not catch) (completed_part (form_part (program_form g variables)))
       ≡ form_part (program_form (optional catch g) variables)
   optional_part_is catch = if_part_is (not catch) _ _
-      (optional_is (program_form g variables) (part_form g variables)
-      (parts_fit g variables) part_optional)
+      (completed_is (program_form g variables) (part_form g variables) (parts_fit g variables)
+      part_optional (λ k. k) (OptionalValue T) (OptionalCommands T) (λ k. refl))
 
   -- one parser of a choice
   pub only_part_is : only_part (form_part (program_form g variables))

@@ -1,25 +1,34 @@
 -- The pieces of an accepted line have no occurrence and no word too many.
 use Rattle.std.proofs.Common.{if◌then◌else◌, true≢false, length, filter, Option, arith, subst, Bool}
 use Rattle.std.proofs.Common.{false, List, refl, true, Some, None, ◌&&◌, ◌++◌, ◌||◌, not, sym, ◌+◌}
+use Rattle.std.proofs.Common.{◌∙◌, ◌∷◌, ◌≡◌, ◌≤◌, [], ap, ℕ}
 use Rattle.bpaf_exact.proofs.Names.{others_unkeyed, none_behind, others_both, others_none, cut_fit}
 use Rattle.bpaf_exact.specs.Flat.{FieldsReading, FallbackValue, both_reading, FieldKind, is_behind}
 use Rattle.bpaf_exact.specs.Flat.{Variables, EachWord, repeated, Closure, OneWord, OwnList, portion}
+use Rattle.bpaf_exact.specs.Flat.{ByName, Groups, LastOf, keys, left, Gap, map_closure}
+use Rattle.bpaf_exact.specs.Flat.{OptionalValue}
 use Rattle.bpaf_exact.specs.Pieces.{is_key_of_any, are_all_apart, is_own_role, LinePiece, no_roles}
-use Rattle.bpaf_exact.specs.ProgramForm.{program_optional, product_reading, program_dressed, single}
-use Rattle.bpaf_exact.specs.ProgramForm.{before_commands, program_choice, program_closed, FieldThen}
-use Rattle.bpaf_exact.specs.ProgramForm.{product_roles, program_alone, program_field, whole_program}
-use Rattle.bpaf_exact.specs.ProgramForm.{program_value, last_reading, program_both, CommandValue}
-use Rattle.bpaf_exact.specs.ProgramForm.{choice_only, program_con, ProgramForm, may_follow, product}
-use Rattle.bpaf_exact.specs.ProgramForm.{program_if, is_program, completed, key_field, are_plain}
+use Rattle.bpaf_exact.specs.Pieces.{either, others, Cells, Roles, Owns, Cut}
+use Rattle.bpaf_exact.specs.ProgramForm.{product_reading, program_dressed, single, before_commands}
+use Rattle.bpaf_exact.specs.ProgramForm.{program_choice, program_closed, FieldThen, product_roles}
+use Rattle.bpaf_exact.specs.ProgramForm.{program_alone, program_field, whole_program, program_value}
+use Rattle.bpaf_exact.specs.ProgramForm.{last_reading, program_both, CommandValue, choice_only}
+use Rattle.bpaf_exact.specs.ProgramForm.{program_con, ProgramForm, may_follow, product, program_if}
+use Rattle.bpaf_exact.specs.ProgramForm.{is_program, completed, key_field, are_plain, complete}
+use Rattle.bpaf_exact.specs.ProgramForm.{commands, part, CellsValue, DefaultCommands}
+use Rattle.bpaf_exact.specs.ProgramForm.{OptionalCommands, RepeatCommands, as_last, both_last}
+use Rattle.bpaf_exact.specs.ProgramForm.{is_commands, or_form, program_either, are_words_apart}
 use Rattle.bpaf_exact.specs.Says.{repeated_kind, words_after, first_item, its_pieces, form_kind}
+use Rattle.bpaf_exact.specs.Says.{SaidKind, of_kind, of_rest, unkeyed, keyed}
 use Rattle.bpaf_grammar.specs.Grammar.{product as con, command_words, FieldsGrammar, both}
 use Rattle.bpaf_grammar.specs.Grammar.{GrammarOf, argument, fallback, optional, command, dressed}
 use Rattle.bpaf_grammar.specs.Grammar.{Grammar, keys_of, choice, closed, repeat, alone, flag, kept}
+use Rattle.bpaf_grammar.specs.Grammar.{last, only, word, made, own, stretch}
 use Rattle.bpaf_record.specs.Program.{repeated_limit, limit_of_both, HasNoSurplus, HasOneOfEach}
 use Rattle.bpaf_record.specs.Program.{program_form, begins_known, are_unusual, word_limit}
 use Rattle.bpaf_record.specs.Program.{said_kind, takes_one, IsWithin, catches, default_closure}
+use Rattle.bpaf_record.specs.Program.{repeat_closure, step_closure, says, part_form}
 use Rattle.std.proofs.lemmas.Bool.{and_parts, or_right, not-true, or_left}
-use Rattle.std.proofs.Common.{◌∙◌, ◌∷◌, ◌≡◌, ◌≤◌, [], ap, ℕ}
 use Rattle.std.proofs.lemmas.List.{length-append, length-drop, length-take}
 use Rattle.std.proofs.{lemmas.List.Filters.length-filter_both, lemmas.List.Elements.filter-append}
 use Rattle.std.proofs.lemmas.List.Folds.{list_any-append}
@@ -29,16 +38,9 @@ use Rattle.bpaf_doc.specs.Names.{Names}
 use Rattle.bpaf_laws.specs.{Command.opening_words, Combinators.is_nil}
 use Rattle.bpaf_exact.proofs.OwnedKeys.{whole_owns, none_owned, OwnsKeys}
 use Rattle.bpaf_exact.proofs.{ProgramSays.cut_says, Names.kept_twice}
-use Rattle.bpaf_exact.specs.Flat.{ByName, Groups, LastOf, keys, left, Gap, map_closure}
-use Rattle.bpaf_exact.specs.Pieces.{either, others, Cells, Roles, Owns, Cut}
-use Rattle.bpaf_exact.specs.Says.{SaidKind, of_kind, of_rest, unkeyed, keyed}
-use Rattle.bpaf_exact.specs.ProgramForm.{complete, commands}
-use Rattle.bpaf_grammar.specs.Grammar.{last, only, word, made, own, stretch}
-use Rattle.bpaf_record.specs.Program.{repeat_closure, step_closure, says}
 use Rattle.bpaf_record.proofs.GrammarSays.{grammar_owns, grammar_says}
 use Rattle.bpaf_exact.specs.Pieces as cut
 use Rattle.bpaf_exact.specs.{Parts.PartForm, ProgramForm.after_parts, ProgramForm.or_part}
-use Rattle.bpaf_exact.specs.ProgramForm.{part}
 
 -- Occurrences.
 
@@ -292,17 +294,14 @@ module _ {T : Type 0} {limit : Option ℕ} (s : ProgramForm T) (h : HasLimit lim
 
   -- a default
   default_limit : {B : Type 0} (value : Groups T → Gap T → List LinePiece → B → Type 0)
-      → HasLimit limit (completed (λ k. k) value s)
-  default_limit value = grind arith
+      (round : CellsValue T → CellsValue B) → HasLimit limit (completed (λ k. k) value round s)
+  default_limit value round = grind arith
 
   -- a repeat
   repeat_limit : {B : Type 0} (value : Groups T → Gap T → List LinePiece → B → Type 0)
-      → HasLimit (repeated_limit limit) (completed repeated value s)
-  repeat_limit value = grind arith
-
-  -- what may be left out
-  optional_limit : HasLimit limit (program_optional s)
-  optional_limit = grind (arith, default_limit)
+      (round : CellsValue T → CellsValue B)
+      → HasLimit (repeated_limit limit) (completed repeated value round s)
+  repeat_limit value round = grind arith
 
   -- as a field
   field_limit : HasLimit limit (program_field s)
@@ -328,11 +327,23 @@ whole_limit : {T : Type 0} {limit : Option ℕ} (s : ProgramForm T) → HasLimit
 whole_limit (product wide named q fields) h = h
 whole_limit s h = alone_limit (program_field s) (field_limit s h)
 
+-- where a form is no program, another
+or_form_limit : {T : Type 0} (limit : Option ℕ) (s t : ProgramForm T) → HasLimit limit s
+    → HasLimit limit t → HasLimit limit (or_form s t)
+or_form_limit limit s t h g = grind arith
+
 -- a choice of two
 choice_limit : {T : Type 0} (limit : Option ℕ) (ours others : List Names)
-    (words more : List (List ℕ)) (s t : ProgramForm T)
-    → HasLimit limit (program_choice ours others words more s t)
-choice_limit limit ours behind words more s t = grind (arith, if_limit)
+    (words more : List (List ℕ)) (p r : PartForm T) (s t : ProgramForm T)
+    → HasLimit limit (program_either ours others words more p r s t)
+choice_limit {T} limit ours behind words more p r s t = or_form_limit limit
+    (program_choice ours behind words more s t) _ (grind (arith, if_limit))
+    (if_limit (are_words_apart words more
+    && (are_all_apart ours behind || (is_commands s || is_commands t)))
+    (of_both (as_last words p s) (as_last more r t)))
+  where
+    of_both : (s t : ProgramForm T) → HasLimit limit (both_last s t)
+    of_both s t = grind arith
 
 -- what may stand in one
 only_limit : {T : Type 0} (limit : Option ℕ) (s : ProgramForm T) → HasLimit limit (choice_only s)
@@ -408,17 +419,21 @@ grammar_limit (stretch first g) variables = record { by = tt }
 grammar_limit (closed f g) variables =
     or_limit _ (closed_limit _ (grammar_limit g variables) (step_closure f))
 grammar_limit (dressed look g) variables = dressed_limit _ (grammar_limit g variables)
-grammar_limit (optional catch g) variables =
-    or_limit _ (if_limit (not catch) (optional_limit _ (grammar_limit g variables)))
+grammar_limit (optional {T = T} catch g) variables =
+    or_limit _ (if_limit (not catch) (default_limit _ (grammar_limit g variables)
+    (OptionalValue T) (OptionalCommands T)))
 grammar_limit (fallback {T = T} shown d g) variables =
     or_limit _ (default_limit _ (grammar_limit g variables)
-    (λ group gap. FallbackValue T group gap (default_closure d)))
+    (λ group gap. FallbackValue T group gap (default_closure d))
+    (DefaultCommands T ((default_closure d).yes tt)))
 grammar_limit (repeat {A = A} f g) variables = or_limit _ (if_limit (not (catches f))
-    (closed_limit _ (repeat_limit _ (grammar_limit g variables) (OwnList A)) (repeat_closure f)))
+    (closed_limit _ (repeat_limit _ (grammar_limit g variables) (OwnList A) (RepeatCommands A))
+    (repeat_closure f)))
 grammar_limit (last {T = T} g) variables =
-    or_limit _ (repeat_limit _ (grammar_limit g variables) (LastOf T))
+    or_limit _ (repeat_limit _ (grammar_limit g variables) (LastOf T) (λ value. value))
 grammar_limit (choice g h) variables = or_limit _ (choice_limit _ (keys_of g true) (keys_of h true)
-    (command_words g) (command_words h) (program_form g variables) (program_form h variables))
+    (command_words g) (command_words h) (part_form g variables) (part_form h variables)
+    (program_form g variables) (program_form h variables))
 grammar_limit (only g) variables = or_limit _ (only_limit _ (program_form g variables))
 grammar_limit (command {T = T} adjacent called info help g) variables = if_limit
     (((not adjacent && are_unusual (keys_of g false) info) && are_plain (opening_words called))

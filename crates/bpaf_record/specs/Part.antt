@@ -3,11 +3,12 @@ use Rattle.std.specs.Prelude.{Bool, true, false, not, ◌&&◌, ◌||◌}
 use Rattle.bpaf_exact.specs.Flat.{FieldKind, ByName}
 use Rattle.bpaf_exact.specs.ProgramForm.{ProgramForm, no_program, alternative, single, complete}
 use Rattle.bpaf_exact.specs.ProgramForm.{product, commands, before_commands, part, after_parts}
+use Rattle.bpaf_exact.specs.ProgramForm.{last_choice}
 use Rattle.bpaf_record.specs.declared.part.Kind.TheVariants.{Named, Word}
 use Rattle.bpaf_record.specs.declared.part.ProgramPart.TheVariants.{NoPart, Alternative, Single}
 use Rattle.bpaf_record.specs.declared.part.ProgramPart.TheVariants.{Complete, Product, Commands}
 use Rattle.bpaf_record.specs.declared.part.ProgramPart.TheVariants.{BeforeCommands, Part}
-use Rattle.bpaf_record.specs.declared.part.ProgramPart.TheVariants.{AfterParts}
+use Rattle.bpaf_record.specs.declared.part.ProgramPart.TheVariants.{AfterParts, LastChoice}
 use Rattle.bpaf_record.specs.{declared.part.Kind.Kind, declared.part.ProgramPart.ProgramPart}
 
 -- by a name, or a positional word
@@ -25,6 +26,7 @@ form_part (product wide named q fields) = Product wide named
 form_part (commands optional value) = Commands optional
 form_part (before_commands value) = BeforeCommands
 form_part (part p) = Part
+form_part (last_choice p own value) = LastChoice
 form_part (after_parts value) = AfterParts
 
 -- it is a named part too
@@ -48,6 +50,7 @@ as_part form = part_if (has_named_part form) Part
 -- with a closure round it
 abbrev pub closed_part : ProgramPart → ProgramPart
 closed_part (Product wide named) = part_if named Part
+closed_part LastChoice = AfterParts
 closed_part form = form
 
 -- with another look
@@ -55,24 +58,42 @@ abbrev pub dressed_part : ProgramPart → ProgramPart
 dressed_part (Product wide named) = Product true named
 dressed_part form = form
 
--- with a repeat or a default
+-- with a repeat or a default, or left out
 abbrev pub completed_part : ProgramPart → ProgramPart
 completed_part (Alternative wide) = Complete wide Named
 completed_part (Single wide kind) = Complete wide kind
+completed_part (Commands false) = Commands true
 completed_part form = as_part form
 
--- what may be left out
-abbrev pub optional_part : ProgramPart → ProgramPart
-optional_part (Commands false) = Commands true
-optional_part form = completed_part form
+-- a command or a choice of commands
+abbrev pub is_commands_part : ProgramPart → Bool
+is_commands_part (Commands false) = true
+is_commands_part _ = false
+
+-- it may stand in a choice of named parts and commands
+abbrev pub is_last_part : ProgramPart → Bool
+is_last_part (Commands false) = true
+is_last_part LastChoice = true
+is_last_part form = has_named_part form
+
+-- one of two, by a test
+abbrev pub chosen_of : Bool → ProgramPart → ProgramPart → ProgramPart
+chosen_of true one other = one
+chosen_of false one other = other
+
+-- the choice of two that aren't flat, nor commands alone
+abbrev pub joined_part : Bool → Bool → ProgramPart → ProgramPart → ProgramPart
+joined_part keys words one other =
+    chosen_of (has_named_part one && has_named_part other) (part_if keys Part)
+    (part_if ((words && (keys || (is_commands_part one || is_commands_part other)))
+    && (is_last_part one && is_last_part other)) LastChoice)
 
 -- the choice of two, by whether their keys and their words are apart
 abbrev pub chosen_part : Bool → Bool → ProgramPart → ProgramPart → ProgramPart
 chosen_part keys words (Alternative wide) (Alternative other) =
     part_if keys (Alternative (wide || other))
 chosen_part keys words (Commands false) (Commands false) = part_if words (Commands false)
-chosen_part keys words one other =
-    part_if (keys && (has_named_part one && has_named_part other)) Part
+chosen_part keys words one other = joined_part keys words one other
 
 -- one parser of a choice
 abbrev pub only_part : ProgramPart → ProgramPart
@@ -87,6 +108,7 @@ field_part (Product wide true) = Complete true Named
 field_part (Product wide false) = Product true false
 field_part (Commands optional) = Commands optional
 field_part BeforeCommands = BeforeCommands
+field_part LastChoice = AfterParts
 field_part AfterParts = AfterParts
 field_part form = completed_part form
 

@@ -1,36 +1,37 @@
 -- What a grammar is to a program, and what values say: the form of a program, the premise of
 -- exactness, and what is said of pieces of a line.
 use Rattle.std.specs.Prelude.{Option, length, false, Bool, true, List, None, ℕ, Some, zero, ◌&&◌}
+use Rattle.std.specs.Prelude.{◌||◌, not, ◌+◌, ◌≡◌, ◌≤◌, Ok, Err}
 use Rattle.bpaf_grammar.specs.Grammar.{Default, Grammar, GrammarOf, Repeat, Step, alone, answered}
 use Rattle.bpaf_grammar.specs.Grammar.{argument, both, choice, cloned, closed, collect, command}
 use Rattle.bpaf_grammar.specs.Grammar.{command_words, count, dressed, fallback, flag, stretch}
 use Rattle.bpaf_grammar.specs.Grammar.{guarded, kept, keys_of, last, made, many, mapped, only}
-use Rattle.bpaf_exact.specs.Flat.{FallbackValue, ClosedValue, Variables, repeated, OneWord, OwnList}
-use Rattle.bpaf_exact.specs.Flat.{Closure, ByName, LastOf, guard_closure, list_closure, map_closure}
+use Rattle.bpaf_grammar.specs.Grammar.{optional, own, parsed, product, repeat, some, word}
+use Rattle.bpaf_exact.specs.Flat.{ClosedValue, Variables, OneWord, Closure, ByName, guard_closure}
+use Rattle.bpaf_exact.specs.Flat.{list_closure, map_closure, parse_closure, some_closure}
 use Rattle.bpaf_exact.specs.ProgramForm.{program_optional, OptionalCommands, program_command}
-use Rattle.bpaf_exact.specs.ProgramForm.{program_dressed, argument_field, program_choice, completed}
-use Rattle.bpaf_exact.specs.ProgramForm.{program_closed, program_alone, program_field, program_both}
+use Rattle.bpaf_exact.specs.ProgramForm.{DefaultCommands, RepeatCommands, program_default}
+use Rattle.bpaf_exact.specs.ProgramForm.{program_last, program_repeat, program_dressed}
+use Rattle.bpaf_exact.specs.ProgramForm.{argument_field, program_either, program_closed}
+use Rattle.bpaf_exact.specs.ProgramForm.{program_alone, program_field, program_both}
 use Rattle.bpaf_exact.specs.ProgramForm.{argument_part_form, flag_part_form, or_part, product_roles}
 use Rattle.bpaf_exact.specs.ProgramForm.{whole_program, CommandValue, choice_only, program_con}
 use Rattle.bpaf_exact.specs.ProgramForm.{ProgramForm, ChoiceValue, flag_field, word_by, pure_field}
-use Rattle.bpaf_exact.specs.Parts.{PartForm, kept_part, no_part, of_part, of_parts}
-use Rattle.bpaf_exact.specs.Parts.{part_choice, part_closed, part_default, part_group, part_if}
+use Rattle.bpaf_exact.specs.ProgramForm.{no_program, program_if, CellsValue, AgreesRound}
+use Rattle.bpaf_exact.specs.Parts.{PartForm, kept_part, no_part, of_part, of_parts, part_choice}
+use Rattle.bpaf_exact.specs.Parts.{part_closed, part_default, part_group, part_if, part_last}
+use Rattle.bpaf_exact.specs.Parts.{part_optional, part_repeat, part_some, some_part}
 use Rattle.bpaf_exact.specs.Says.{FieldThenSays, repeated_kind, ArgumentSays, FallbackSays, BothSay}
 use Rattle.bpaf_exact.specs.Says.{OptionalSays, EitherSays, FieldsSaid, RecordSays, RepeatSays}
 use Rattle.bpaf_exact.specs.Says.{scope_said, scope_told, first_item, AloneSays, form_kind}
 use Rattle.bpaf_exact.specs.Says.{FlagSays, LastSays, MadeSays, SaidKind, WordSays, of_kind}
-use Rattle.std.specs.Prelude.{◌||◌, not, ◌+◌, ◌≡◌, ◌≤◌, Ok, Err}
+use Rattle.bpaf_exact.specs.Says.{unkeyed, keyed, Said}
 use Rattle.std.specs.List.{list_all}
 use Rattle.bpaf_doc.specs.Names.{Names}
 use Rattle.bpaf_laws.specs.{Command.opening_words, Reading.first_set}
 use Rattle.bpaf_keys.specs.Info.{RunInfo}
-use Rattle.bpaf_grammar.specs.Grammar.{optional, own, parsed, product, repeat, some, word}
 use Rattle.bpaf_grammar.specs.Positional.{accepts}
-use Rattle.bpaf_exact.specs.ProgramForm.{no_program, program_if, CellsValue, AgreesRound}
-use Rattle.bpaf_exact.specs.Parts.{part_last, part_optional, part_repeat, part_some, some_part}
 use Rattle.bpaf_exact.specs.Pieces.{are_all_apart, is_key_of_any, are_apart, LinePiece}
-use Rattle.bpaf_exact.specs.Flat.{parse_closure, some_closure}
-use Rattle.bpaf_exact.specs.Says.{unkeyed, keyed, Said}
 use Rattle.bpaf_base.specs.Items.{is_key}
 
 -- none of these keys shares a name with those of help and version
@@ -113,18 +114,18 @@ program_form (dressed look g) variables = program_dressed (program_form g variab
 program_form (optional catch g) variables =
     or_part (program_if (not catch) (program_optional (program_form g variables)))
     (part_form (optional catch g) variables)
-program_form (fallback {T = T} shown d g) variables = or_part (completed (λ k. k)
-    (λ group gap. FallbackValue T group gap (default_closure d)) (program_form g variables))
+program_form (fallback shown d g) variables =
+    or_part (program_default (default_closure d) (program_form g variables))
     (part_form (fallback shown d g) variables)
-program_form (repeat {A = A} f g) variables = or_part (program_if (not (catches f))
-    (program_closed (repeat_closure f) (completed repeated (OwnList A) (program_form g variables))))
+program_form (repeat f g) variables = or_part (program_if (not (catches f))
+    (program_closed (repeat_closure f) (program_repeat (program_form g variables))))
     (part_form (repeat f g) variables)
-program_form (last {T = T} g) variables =
-    or_part (completed repeated (LastOf T) (program_form g variables))
-    (part_form (last g) variables)
+program_form (last g) variables =
+    or_part (program_last (program_form g variables)) (part_form (last g) variables)
 program_form (choice g h) variables =
-    or_part (program_choice (keys_of g true) (keys_of h true) (command_words g) (command_words h)
-    (program_form g variables) (program_form h variables)) (part_form (choice g h) variables)
+    or_part (program_either (keys_of g true) (keys_of h true) (command_words g) (command_words h)
+    (part_form g variables) (part_form h variables) (program_form g variables)
+    (program_form h variables)) (part_form (choice g h) variables)
 program_form (only g) variables =
     or_part (choice_only (program_form g variables)) (part_form (only g) variables)
 program_form (command adjacent called info help g) variables =
@@ -215,15 +216,11 @@ abbrev pub closed_make : Make → Make
 closed_make FlatFields = AnyPart
 closed_make make = make
 
--- with a repeat or a default
+-- with a repeat or a default, or left out
 abbrev pub completed_make : Make → Make
 completed_make OneRead = WholeField
+completed_make OnlyCommands = OnlyCommands
 completed_make _ = AnyPart
-
--- what may be left out
-abbrev pub optional_make : Make → Make
-optional_make OnlyCommands = OnlyCommands
-optional_make make = completed_make make
 
 -- one parser of a choice
 abbrev pub only_make : Make → Make
@@ -258,7 +255,7 @@ make_of (word means position metavar help) = OneRead
 make_of (kept clones value) = WholeField
 make_of (closed f g) = closed_make (make_of g)
 make_of (dressed look g) = make_of g
-make_of (optional catch g) = optional_make (make_of g)
+make_of (optional catch g) = completed_make (make_of g)
 make_of (fallback shown d g) = completed_make (make_of g)
 make_of (repeat f g) = completed_make (make_of g)
 make_of (last g) = completed_make (make_of g)
@@ -318,6 +315,11 @@ abbrev pub cells_say : {fields : Bool} {T : Type 0} → GrammarOf fields T → V
 cells_say (closed f g) variables = ClosedValue (cells_say g variables) (step_closure f)
 cells_say (dressed look g) variables = cells_say g variables
 cells_say (optional {T = T} catch g) variables = OptionalCommands T (cells_say g variables)
+cells_say (fallback {T = T} shown d g) variables =
+    DefaultCommands T ((default_closure d).yes tt) (cells_say g variables)
+cells_say (repeat {A = A} f g) variables =
+    ClosedValue (RepeatCommands A (cells_say g variables)) (repeat_closure f)
+cells_say (last g) variables = cells_say g variables
 cells_say (choice {T = T} g h) variables =
     ChoiceValue T (cells_say g variables) (cells_say h variables)
 cells_say (only g) variables = cells_say g variables

@@ -12,8 +12,7 @@ use crate::words::{NoWordOf, WordTest};
 use bpaf::parsers::{ParseChoice, ParseOrElse};
 use std::marker::PhantomData;
 
-/// Of required flags and arguments alone, whose names are apart; or of commands alone, whose words
-/// are.
+/// Of named parts, whose names are apart, and of commands, whose words are.
 impl<T: Drop, A: ProgramField<T>, B: ProgramField<T>> ProgramField<T> for ParseOrElse<A, B> {
     fn part(&self) -> ProgramPart {
         let keys_apart = self.this.all_keys(&ApartFromField {
@@ -116,8 +115,8 @@ fn join_all<T, P: ProgramField<T>>(parsers: &[P]) -> ProgramPart
     }
 }
 
-/// Of required flags and arguments alone, whose names are apart; or of commands alone, whose words
-/// are. A choice of none is nothing.
+/// Of named parts, whose names are apart; or of commands, whose words are. A choice of none is
+/// nothing.
 impl<T: Drop, P: ProgramField<T> + Drop> ProgramField<T> for ParseChoice<P> {
     #[tactic(auto, using(crate::proofs::Parts::only_part_is))]
     fn part(&self) -> ProgramPart {

@@ -20,16 +20,19 @@ pub trait CommandLine<T> {
     /// Whether they are a program, where the environment has some variables.
     ghost is_whole: { Self → Variables → Bool };
 
-    /// Whether they are a program: a flat record, or named fields and then commands, each over a
-    /// program again. The commands may stand under `optional`, and closures round each of them,
-    /// round a choice of them and round the optional; their words aren't empty, and none begins
-    /// with a dash. No field shares a name with another of its product, with one inside its
-    /// commands, or with the keys of help and version of the run that it stands in; no two commands
-    /// of a choice share a word. A field may be hidden, a kept value, a key with names in the
+    /// Whether they are a program: a flat record, or named fields and then words or commands, each
+    /// command over a program again. A field may be hidden, a kept value, a key with names in the
     /// environment, an adjacent argument, a positional word with `strict` or `non_strict`; or a
-    /// product of named fields, or in the last place one with positional words or one that ends in
-    /// commands, whose fields count as those of the product that it stands in.
-    /// It takes no memory.
+    /// named part: a product or a choice of named fields, with closures, `optional`, defaults or
+    /// repeats round it, in one another. In the last place may stand a product with positional
+    /// words or one that ends in commands, whose fields count as those of the product that it
+    /// stands in.
+    ///
+    /// Commands may stand under one `optional`, default or repeat, with closures round them, and in
+    /// a choice with named parts; their words aren't empty, and none begins with a dash. Nothing
+    /// has `catch`. No field shares a name with another of its product, with one inside its
+    /// commands, or with the keys of help and version of the run that it stands in; no two commands
+    /// of a choice share a word, and no two parts of one a name. It takes no memory.
     fn is_program(&self) -> bool
         ensures { (variables : Variables) → result ≡ is_whole self.now variables };
 

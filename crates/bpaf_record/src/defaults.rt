@@ -9,11 +9,11 @@ use crate::words::WordTest;
 use bpaf::parsers::{ParseFallback, ParseFallbackWith, ParseOptional};
 use std::fmt::Display;
 
-/// With `catch` it is no flat field, nor optional commands.
+/// With `catch` it is nothing to a program.
 impl<T: Drop, P: ProgramField<T>> ProgramField<Option<T>> for ParseOptional<P> {
     #[tactic(auto, using(crate::proofs::Parts::optional_part_is))]
     fn part(&self) -> ProgramPart {
-        self.inner.part().optional().only_if(!self.catch)
+        self.inner.part().completed().only_if(!self.catch)
     }
 
     fn all_keys<N: KeyTest>(&self, test: &N) -> bool {

@@ -5,27 +5,27 @@
 //! the layers above:
 //!
 //! - [`ProgramField`] is written for the parsers that may stand in a program: flags, arguments and
-//!   positional words, choices of required flags and arguments, `map`, `parse`, `guard`,
-//!   `optional`, the repeats, both fallbacks, `hide`, `hide_usage`, `custom_usage`, `group_help`,
-//!   `pure`, products, and commands and choices of them; [`ProgramFields`] for the fields of a
-//!   product. Each says of what it is made (`grammar`), by which definitions tell what it is to a
-//!   program (`program_form`, specs/Grammar.antt) and what its values say (`says`), and proves the
-//!   law of that form: what it answers and takes depends on what is its own alone. A parser that
-//!   has no [`ProgramField`] stands in no program: the compiler tells.
+//!   positional words, choices, `map`, `parse`, `guard`, `optional`, the repeats, both fallbacks,
+//!   `hide`, `hide_usage`, `custom_usage`, `group_help`, `pure`, products, and commands;
+//!   [`ProgramFields`] for the fields of a product. Each says of what it is made (`grammar`), by
+//!   which definitions tell what it is to a program (`program_form`, specs/Program.antt) and what
+//!   its values say (`says`). By the law of that form what it answers and takes depends on what is
+//!   its own alone (proofs/FormLaws.antt). A parser that has no [`ProgramField`] stands in no
+//!   program: the compiler tells.
 //! - [`FlatField`] and [`FlatFields`], marks without members, are written for those that may stand
 //!   in a flat record: all but commands, `hide` and `pure`. What such a type is to a flat record
 //!   may be told by its value alone: an adjacent argument or a positional word with `strict` is a
 //!   field of a program, and of no flat record (`wide`).
 //! - Its premise is `agrees`: whether a closure of `parse`, `guard` or `fallback_with` accepts
-//!   depends on the pieces alone. `map` and constructors need none, nor do kept values and
-//!   `from_text`.
+//!   depends on the pieces alone, round groups and commands on what is present. `map` and
+//!   constructors need none, nor do kept values and `from_text`.
 //! - [`Record::is_record`] tells, without memory, whether options are a flat record, exactly as
 //!   `is_flat_record` says (specs/Record.antt): at most one repeat or default in a field, choices
 //!   not empty and without `take_last`, positional words last, no `strict`, `non_strict`, `catch`,
 //!   `adjacent` or name in the environment, nothing round a product and none inside a field, and no
 //!   name shared with another field, help or version.
 //! - [`CommandLine::is_program`] tells, without memory, whether options are a program: a flat
-//!   record, or named fields and then commands, each over a program again (`is_whole_program`,
+//!   record, or named fields and parts and then words or commands (`is_whole_program`,
 //!   specs/Record.antt). [`CommandLine::run_program`] runs such options as `run_inner` does, and
 //!   each answer is exact (`AnswersAsProgram`): a value comes only where it is one of the program
 //!   on the words' line, and where the program has a value there no other answer comes, but for

@@ -4,7 +4,7 @@ ghost use Rattle.bpaf_record.specs.Part.{before_part, chosen_part, closed_part, 
 ghost use Rattle.bpaf_record.specs.Part.{completed_part, dressed_part, field_part, is_named_kind};
 ghost use Rattle.bpaf_record.specs.Part.{is_program_part, is_record_part, last_part, made_part};
 ghost use Rattle.bpaf_record.specs.Part.{as_part, has_named_part, may_stand, only_part};
-ghost use Rattle.bpaf_record.specs.Part.{optional_part, part_if};
+ghost use Rattle.bpaf_record.specs.Part.{is_commands_part, is_last_part, joined_part, part_if};
 
 /// What the items of a field are.
 #[derive(Clone, Copy)]
@@ -49,12 +49,14 @@ pub enum ProgramPart {
     Complete { wide: bool, kind: Kind },
     /// A product of fields, which are all named or aren't.
     Product { wide: bool, named: bool },
-    /// A command, or a choice of commands, which may be left out or mayn't.
+    /// A command, or a choice of commands, perhaps under a repeat or a default, or left out.
     Commands { optional: bool },
     /// Named fields, and then commands.
     BeforeCommands,
     /// A named part that is no flat field or record.
     Part,
+    /// A choice of named parts and commands.
+    LastChoice,
     /// Named parts, and then words or commands.
     AfterParts,
 }
@@ -94,6 +96,7 @@ impl ProgramPart {
     {
         match self {
             ProgramPart::Product { named, .. } => ProgramPart::Part.only_if(named),
+            ProgramPart::LastChoice => ProgramPart::AfterParts,
             other => other,
         }
     }
@@ -108,7 +111,7 @@ impl ProgramPart {
         }
     }
 
-    /// With a repeat or a default.
+    /// With a repeat or a default, or what may be left out.
     pub(crate) fn completed(self) -> ProgramPart
         ensures { result ≡ completed_part self }
     {
@@ -118,21 +121,45 @@ impl ProgramPart {
                 kind: Kind::Named,
             },
             ProgramPart::Single { wide, kind } => ProgramPart::Complete { wide, kind },
+            ProgramPart::Commands { optional: false } => ProgramPart::Commands { optional: true },
             other => other.as_part(),
         }
     }
 
-    /// What may be left out.
-    pub(crate) fn optional(self) -> ProgramPart
-        ensures { result ≡ optional_part self }
+    /// Whether it is a command or a choice of commands.
+    fn is_commands(self) -> bool
+        ensures { result ≡ is_commands_part self }
+    {
+        matches!(self, ProgramPart::Commands { optional: false })
+    }
+
+    /// Whether it may stand in a choice of named parts and commands.
+    fn is_last(self) -> bool
+        ensures { result ≡ is_last_part self }
     {
         match self {
-            ProgramPart::Commands { optional: false } => ProgramPart::Commands { optional: true },
-            other => other.completed(),
+            ProgramPart::Commands { optional: false } | ProgramPart::LastChoice => true,
+            other => other.has_named_part(),
         }
     }
 
-    /// The choice of two, whose keys are apart or not, and whose words are or aren't.
+    /// The choice of two that aren't flat, nor commands alone.
+    fn join(self, other: ProgramPart, keys_apart: bool, words_apart: bool) -> ProgramPart
+        ensures { result ≡ joined_part keys_apart words_apart self other }
+    {
+        let are_parts = self.has_named_part() && other.has_named_part();
+        let may_share = self.is_commands() || other.is_commands();
+        let apart = words_apart && (keys_apart || may_share);
+        let are_last = self.is_last() && other.is_last();
+        if are_parts {
+            ProgramPart::Part.only_if(keys_apart)
+        } else {
+            ProgramPart::LastChoice.only_if(apart && are_last)
+        }
+    }
+
+    /// The choice of two, whose keys are apart or not, and whose words are or aren't. A named part
+    /// may share keys with those inside commands.
     pub(crate) fn or_else(
         self,
         other: ProgramPart,
@@ -150,10 +177,7 @@ impl ProgramPart {
                 ProgramPart::Commands { optional: false },
                 ProgramPart::Commands { optional: false },
             ) => ProgramPart::Commands { optional: false }.only_if(words_apart),
-            (this, that) => {
-                let parts = this.has_named_part() && that.has_named_part();
-                ProgramPart::Part.only_if(keys_apart && parts)
-            }
+            (this, that) => this.join(that, keys_apart, words_apart),
         }
     }
 
@@ -192,6 +216,7 @@ impl ProgramPart {
             | ProgramPart::Commands { .. }
             | ProgramPart::BeforeCommands
             | ProgramPart::AfterParts => self,
+            ProgramPart::LastChoice => ProgramPart::AfterParts,
             other => other.completed(),
         }
     }

@@ -8,7 +8,7 @@ use crate::words::WordTest;
 use bpaf::FromList;
 use bpaf::parsers::{ParseCollect, ParseCount, ParseLast, ParseMany, ParseSome};
 
-/// With `catch` it is no flat field, nor round another repeat or a default.
+/// With `catch` it is nothing to a program.
 impl<T: Drop, P: ProgramField<T>> ProgramField<Vec<T>> for ParseMany<P> {
     #[tactic(auto, using(crate::proofs::Parts::repeat_part_is))]
     fn part(&self) -> ProgramPart {

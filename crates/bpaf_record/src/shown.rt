@@ -1,6 +1,5 @@
 //! What changes only what is shown: a field stays what it is inside, as does a command or a choice
-//! of such. A product of flat fields with such a look round it may stand in a program, but is no
-//! flat record; one that ends in commands is no program then.
+//! of such. A product with such a look round it may stand in a program, but is no flat record.
 ghost use Rattle.bpaf_grammar.specs.Grammar.{dressed};
 
 use crate::field::{FlatField, ProgramField};

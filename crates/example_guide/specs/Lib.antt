@@ -6,3 +6,4 @@ pub mod Remove
 pub mod Toggle
 pub mod Told
 pub mod Share
+pub mod Login

@@ -1,6 +1,6 @@
 //! The programs of docs/GUIDE.md and docs/FACTS.md: a parser, a value and a collection of a caller's
 //! own, a backup, a remover, a `head`, an archiver, a dimmer, programs with commands, one of them
-//! with guards on texts, and a row of a test. `main` runs them.
+//! with guards on texts, a login, and a row of a test. `main` runs them.
 //!
 //! It stands on `bpaf`, `bpaf_record` and `bpaf_program`, and its definitions also cite those of
 //! the crates below. It has no contract for a layer above: it is the top.
@@ -19,6 +19,7 @@ mod dim;
 mod git;
 mod head;
 mod keys;
+mod login;
 mod options;
 mod remove;
 mod row;
@@ -81,6 +82,7 @@ fn show_all(rt: &HostRuntime, size: u128) -> io::Result<()> {
     show_dimming(rt)?;
     show_cleaning(rt)?;
     show_share(rt)?;
+    show_login(rt)?;
     tell(rt, "row", row::read_seconds(rt.alloc(), &["-s", "5"]))?;
     tell(
         rt,
@@ -168,6 +170,16 @@ fn show_share(rt: &HostRuntime) -> io::Result<()> {
         tell(rt, "share", share::read_share(rt.alloc(), &words))?;
     }
     Ok(())
+}
+
+/// Tells who logs in by words of its own, of which the last ones lack the password.
+fn show_login(rt: &HostRuntime) -> io::Result<()> {
+    let words = words_of(rt.alloc(), &["-px", "-u", "ann"])?;
+    tell(rt, "login", login::read_login(rt.alloc(), &words))?;
+    let words = words_of(rt.alloc(), &[])?;
+    tell(rt, "login", login::read_login(rt.alloc(), &words))?;
+    let words = words_of(rt.alloc(), &["-u", "ann"])?;
+    tell(rt, "login", login::read_login(rt.alloc(), &words))
 }
 
 /// Tells what the list of tasks reads off words of its own.

@@ -166,6 +166,20 @@ fn tell_exclusive(rt: &HostRuntime) -> io::Result<()> {
     tell(rt, "server", shapes::read_server(alloc, &server))
 }
 
+/// Tells what is read where a command may be left out.
+fn tell_commands(rt: &HostRuntime) -> io::Result<()> {
+    let alloc = rt.alloc();
+    tell(rt, "action", shapes::read_action(alloc, &["--show"]))?;
+    tell(rt, "action", shapes::read_action(alloc, &["add", "1"]))?;
+    tell(
+        rt,
+        "action",
+        shapes::read_action(alloc, &["add", "1", "--show"]),
+    )?;
+    tell(rt, "set", shapes::read_level(alloc, &["set", "5"]))?;
+    tell(rt, "set", shapes::read_level(alloc, &[]))
+}
+
 /// Tells what usual shapes read.
 fn tell_shapes(rt: &HostRuntime) -> io::Result<()> {
     let alloc = rt.alloc();
@@ -181,6 +195,7 @@ fn tell_shapes(rt: &HostRuntime) -> io::Result<()> {
     tell(rt, "search", shapes::read_search(alloc, &["x", "a", "b"]))?;
     tell(rt, "search", shapes::read_search(alloc, &["a", "-e", "x"]))?;
     tell_exclusive(rt)?;
+    tell_commands(rt)?;
     tell(rt, "pair", shapes::read_pair(alloc, &["-a", "b"]))?;
     let words = ["--point", "1", "2", "-v", "--point", "3", "4"];
     tell(rt, "points", points::read_points(alloc, &words))?;

@@ -103,6 +103,28 @@ pub fn read_server(alloc: Global, words: &[&str]) -> Result<Server, ParseFailure
     server.into_options(alloc).run_program(Args::from(words))
 }
 
+/// What is done with a list.
+#[derive(Clone, Debug, Drop)]
+pub enum Action {
+    Show,
+    Add(u64),
+}
+
+/// A command, or an option in its place.
+pub fn read_action(alloc: Global, words: &[&str]) -> Result<Action, ParseFailure> {
+    let show = long_key(alloc, "show").req_flag(Action::Show);
+    let number = positional::<u64>("NUMBER");
+    let add = plain_command(alloc, "add", construct!(Action::Add(number)));
+    let action = construct!([show, add]);
+    action.into_options(alloc).run_program(Args::from(words))
+}
+
+/// A command's value, or what stands for it where no command is called.
+pub fn read_level(alloc: Global, words: &[&str]) -> Result<u64, ParseFailure> {
+    let level = plain_command(alloc, "set", positional::<u64>("LEVEL")).fallback(3);
+    level.into_options(alloc).run_program(Args::from(words))
+}
+
 /// A switch and a word, whose parser a function answers.
 fn switch_and_word(
     alloc: Global,

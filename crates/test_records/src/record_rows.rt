@@ -11,7 +11,7 @@ use std::test::Fail;
 use test_support::{fits, number, rows_of, switch};
 
 /// A word.
-pub(crate) fn word() -> ParsePositional<String> {
+fn word() -> ParsePositional<String> {
     positional("FILE")
 }
 

@@ -1,15 +1,19 @@
 //! Worked rows through `run_program`, each with its value, or that it is refused or a text is
 //! shown. It runs as `run_inner` does, whose texts stand in rows.txt.
-use crate::record_rows::word;
-use bpaf::params::{ParseArgument, ParseFlag};
+use bpaf::params::{ParseArgument, ParseFlag, ParsePositional};
 use bpaf::parsers::{ParseCommand, ParseOrElse};
-use bpaf::{Args, Doc, Parser, choice, construct, long, pure, short};
+use bpaf::{Args, Doc, Parser, choice, construct, long, positional, pure, short};
 use bpaf_record::{CommandLine, ProgramField};
 use std::alloc::{AllocError, Global};
 use std::collections::BTreeMap;
 use std::fmt::Debug;
 use std::test::Fail;
 use test_support::{fits, number, rows_of, switch};
+
+/// A word.
+pub(crate) fn word() -> ParsePositional<String> {
+    positional("FILE")
+}
 
 /// An environment of these variables, each with its value.
 fn environment(

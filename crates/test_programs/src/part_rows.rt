@@ -1,6 +1,5 @@
 //! Worked rows of named parts, and of words and commands behind them, through `run_program`.
-use crate::program_rows::compare_in;
-use crate::record_rows::word;
+use crate::program_rows::{compare_in, word};
 use bpaf::params::ParseArgument;
 use bpaf::{Parser, construct, short};
 use bpaf_record::ProgramField;

@@ -1,7 +1,8 @@
 //! Which options are no program with commands. What runs as one is one.
-use bpaf::params::{ParseArgument, ParseFlag, ParsePositional};
+use crate::program_rows::word;
+use bpaf::params::{ParseArgument, ParseFlag};
 use bpaf::parsers::ParseCommand;
-use bpaf::{ParseTuple2, Parser, choice, construct, positional};
+use bpaf::{ParseTuple2, Parser, choice, construct, positional, short};
 use bpaf_record::{CommandLine, ProgramField};
 use std::alloc::{AllocError, Global};
 use std::test::Fail;
@@ -79,12 +80,24 @@ fn is_either_whole(alloc: Global, first: Opening, second: Opening) -> Result<boo
     is_whole(alloc, construct!([first, second]))
 }
 
+/// Whether a choice of a flag of this name and two commands is one.
+fn is_beside_whole(
+    alloc: Global,
+    key: char,
+    first: Opening,
+    second: Opening,
+) -> Result<bool, AllocError> {
+    let flag = short(alloc, key)?.req_flag(true);
+    is_whole(alloc, construct!([flag, first, second]))
+}
+
 /// Of choices of commands of one word, whether one is.
 fn is_one_choice(alloc: Global) -> Result<bool, AllocError> {
     Ok(
         // no_program_shared_word
         is_choice_whole(alloc, &[("rm", 'f'), ("add", 'g'), ("rm", 'k')])?
-            || is_either_whole(alloc, add(alloc)?.short('r')?, open(alloc, "r", 'g')?)?,
+            || is_either_whole(alloc, add(alloc)?.short('r')?, open(alloc, "r", 'g')?)?
+            || is_beside_whole(alloc, 'v', add(alloc)?, open(alloc, "add", 'g')?)?,
     )
 }
 
@@ -101,11 +114,6 @@ fn are_whole<A: Drop, B: Drop, P: ProgramField<A> + Drop, Q: ProgramField<B> + D
 fn are_nested_whole(alloc: Global, key: char) -> Result<bool, AllocError> {
     let remote = add(alloc)?.to_options(alloc)?.command("remote")?;
     are_whole(alloc, switch(alloc, key)?, remote)
-}
-
-/// A word.
-fn word() -> ParsePositional<String> {
-    positional("FILE")
 }
 
 /// Of products, whether one is: with a command that isn't last, behind a word, and with names that
@@ -167,10 +175,11 @@ fn group(alloc: Global, first: char, second: char) -> Result<Group, AllocError> 
     Ok(construct!(first, second))
 }
 
-/// Of choices that mix what is none of one kind, whether one is: of groups that share a name, and of
-/// a number and a word, or a command.
+/// Of choices that mix what is none of one kind, whether one is: of groups that share a name, of a
+/// number and a word, and of a group and a product that ends in a command.
 fn is_one_mixed(alloc: Global) -> Result<bool, AllocError> {
     let far = positional::<u64>("FAR");
+    let low = number(alloc, 'c')?;
     let jump = number(alloc, 'n')?.to_options(alloc)?.command("jump")?;
     Ok(
         // no_program_part_shared_name
@@ -178,7 +187,7 @@ fn is_one_mixed(alloc: Global) -> Result<bool, AllocError> {
             // no_program_choice_with_a_word
             || is_either_one_whole(alloc, number(alloc, 'a')?, far)?
             // no_program_choice_with_a_command
-            || is_either_one_whole(alloc, number(alloc, 'a')?, jump)?,
+            || is_either_one_whole(alloc, group(alloc, 'a', 'b')?, construct!(low, jump))?,
     )
 }
 
@@ -198,6 +207,7 @@ fn is_one_wrapped(alloc: Global) -> Result<bool, AllocError> {
     Ok(
         // no_program_catch
         is_whole(alloc, add(alloc)?.optional().catch())?
+            || is_whole(alloc, add(alloc)?.many().catch())?
             || are_optional_whole(alloc, number(alloc, 'a')?, number(alloc, 'b')?, true)?
             // no_program_optional_word
             || are_optional_whole(alloc, number(alloc, 'a')?, word(), false)?
@@ -205,8 +215,8 @@ fn is_one_wrapped(alloc: Global) -> Result<bool, AllocError> {
             || are_optional_whole(alloc, switch(alloc, 'v')?, add(alloc)?, false)?
             // no_program_repeated_twice
             || is_whole(alloc, word().optional().many())?
-            // no_program_repeated_command
-            || is_whole(alloc, add(alloc)?.many())?,
+            // no_program_optional_repeat_of_commands
+            || is_whole(alloc, add(alloc)?.many().optional())?,
     )
 }
 
