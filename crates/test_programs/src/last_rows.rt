@@ -1,25 +1,12 @@
 //! Worked rows of defaults and repeats round commands, and of choices of a named part and commands,
 //! through `run_program`.
-use crate::program_rows::compare_in;
+use crate::program_rows::compare;
 use bpaf::params::ParseArgument;
 use bpaf::parsers::ParseCommand;
 use bpaf::{Parser, construct, short};
-use bpaf_record::ProgramField;
 use std::alloc::{AllocError, Global};
-use std::fmt::Debug;
 use std::test::Fail;
 use test_support::{number, switch};
-
-/// Compares the answers of a parser where no variable is set.
-fn compare<T: Debug + Drop, P: ProgramField<T> + Drop>(
-    alloc: Global,
-    parser: P,
-    rows: &str,
-) -> Result<(), Fail>
-    requires { P.can_eval parser }
-{
-    compare_in(alloc, &[], parser, rows)
-}
 
 /// A command over a number.
 type Opening = ParseCommand<u64, ParseArgument<u64>>;

@@ -50,7 +50,7 @@ pub(crate) fn compare_in<T: Debug + Drop, P: ProgramField<T> + Drop>(
 }
 
 /// The same where no variable is set.
-fn compare<T: Debug + Drop, P: ProgramField<T> + Drop>(
+pub(crate) fn compare<T: Debug + Drop, P: ProgramField<T> + Drop>(
     alloc: Global,
     parser: P,
     rows: &str,
